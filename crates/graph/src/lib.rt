@@ -1,0 +1,4 @@
+// Object graphs: vertices with bytes, joined by links that stand for their offset fields.
+pub mod object_file;
+pub mod serialize;
+pub mod vertex;
