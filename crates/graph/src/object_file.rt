@@ -2,8 +2,11 @@
 ghost use mathlib.Core.Path.{_≡_};
 ghost use Prim.Native.Nat.{ℕ, _+_, _-_, _*_, _<_, _≤_};
 ghost use lib.ListN.{length};
+ghost use Rattle.std.specs.declared.option.Option.the-variants.{Some};
 ghost use Rattle.graph.specs.Objects.{zeros};
-ghost use Rattle.graph.specs.ObjectFile.{u32At, numbersOf, trailerOf, gapless, lengthAt, startAt, follows};
+ghost use Rattle.graph.specs.ObjectFile.{u32At, numbersOf, trailerOf, gapless, lengthAt, startAt, recordAt, soundAlone, follows, every, firstBroken};
+ghost use Rattle.graph.specs.Scanning.{KeptBelow, ScannedTo, Checked};
+use crate::serialize::LinkWidth;
 
 // How long the trailer is.
 pub const TRAILER_LEN: usize = 20;
@@ -12,7 +15,7 @@ pub const TRAILER_LEN: usize = 20;
 pub const TAG: u32 = 0x4D4B4F42;
 
 // The trailer's numbers: the places of the lengths and of the link records, and how many of each there are.
-#[derive(Clone, Copy, PartialEq, Eq, Debug)]
+#[derive(Clone, Copy)]
 pub struct Trailer {
     pub lengths: u32,
     pub records: u32,
@@ -21,12 +24,19 @@ pub struct Trailer {
 }
 
 // A link as the file has it: the field of `width` bytes at `position` in `parent`, which points at `child`.
-#[derive(Clone, Copy, PartialEq, Eq, Debug)]
+#[derive(Clone, Copy)]
 pub struct LinkRecord {
     pub parent: u32,
     pub position: u32,
     pub child: u32,
     pub width: u32,
+}
+
+// How far a scan of the records has come: to records of `vertex`, whose bytes begin at `start`.
+#[derive(Clone, Copy)]
+pub(crate) struct Scan {
+    vertex: u32,
+    start: usize,
 }
 
 // The number at a place.
@@ -125,5 +135,84 @@ impl Trailer {
             at += self.length(file, v) as usize;
         }
         at
+    }
+
+    // A link record.
+    pub(crate) fn record(self, file: &[u8], i: u32) -> LinkRecord
+        requires { ⌜ self .records + 16 * i + 16 ≤ length (now file) ⌝ }
+        ensures { λ r. ⌜ r ≡ recordAt (now (file .entry)) self i ⌝ }
+    {
+        let at = self.records as usize + 16 * i as usize;
+        LinkRecord {
+            parent: u32_at(file, at),
+            position: u32_at(file, at + 4),
+            child: u32_at(file, at + 8),
+            width: u32_at(file, at + 12),
+        }
+    }
+
+    // Whether record `i` follows all records before it, which keep every rule: it is enough to ask the last of them.
+    fn is_in_order(self, file: &[u8], i: u32, link: LinkRecord) -> bool
+        requires within { ⌜ self .records + 16 * i + 16 ≤ length (now file) ⌝ }
+        requires link { ⌜ link ≡ recordAt (now file) self i ⌝ }
+        requires before { ⌜ KeptBelow (now file) self i ⌝ }
+        ensures { λ r. ⌜ r ≡ every i (λ j. follows (recordAt (now (file .entry)) self j) link) ⌝ }
+    {
+        i == 0 || link.follows(self.record(file, i - 1))
+    }
+
+    // Whether a record keeps the rules that it can break alone; the bytes of its parent begin at `start`.
+    fn is_sound(self, file: &[u8], link: LinkRecord, start: usize) -> bool
+        requires trailer { ⌜ trailerOf (now file) ≡ Some self ⌝ }
+        requires parent { ⌜ link .parent < self .vertices ⌝ }
+        requires start { ⌜ start ≡ startAt (now file) self (link .parent) ⌝ }
+        ensures { λ r. ⌜ r ≡ soundAlone (now (file .entry)) self link ⌝ }
+    {
+        let width = link.width as usize;
+        let position = link.position as usize;
+        if link.child >= self.vertices || LinkWidth::new_checked(width).is_none() {
+            return false;
+        }
+        if position + width > self.length(file, link.parent) as usize {
+            return false;
+        }
+        is_zero(&file[start + position..start + position + width])
+    }
+
+    // Whether record `i` keeps every rule; if so, where the scan then stands.
+    fn check(self, file: &[u8], i: u32, scan: Scan) -> Option<Scan>
+        requires trailer { ⌜ trailerOf (now file) ≡ Some self ⌝ }
+        requires within { ⌜ i < self .links ⌝ }
+        requires before { ⌜ KeptBelow (now file) self i ⌝ }
+        requires scan { ⌜ ScannedTo (now file) self i scan ⌝ }
+        ensures { λ r. ⌜ Checked (now (file .entry)) self i r ⌝ }
+    {
+        let link = self.record(file, i);
+        if !self.is_in_order(file, i, link) || link.parent >= self.vertices {
+            return None;
+        }
+        let start = self.start_of(file, scan.vertex, scan.start, link.parent);
+        if !self.is_sound(file, link, start) {
+            return None;
+        }
+        Some(Scan {
+            vertex: link.parent,
+            start,
+        })
+    }
+
+    // The first record that breaks a rule, alone or with those before it.
+    pub fn first_broken(self, file: &[u8]) -> Option<u32>
+        requires { ⌜ trailerOf (now file) ≡ Some self ⌝ }
+        ensures { λ r. ⌜ r ≡ firstBroken (now (file .entry)) self ⌝ }
+    {
+        let mut scan = Scan { vertex: 0, start: 0 };
+        for i in 0..self.links {
+            let Some(next) = self.check(file, i, scan) else {
+                return Some(i);
+            };
+            scan = next;
+        }
+        None
     }
 }

@@ -1,7 +1,7 @@
 // The records of the vertex table.
 
 // A vertex: its bytes are `bytes[head .. head + len]`, its links `links[first_link .. first_link + link_count]`.
-#[derive(Clone, Copy, PartialEq, Eq, Debug)]
+#[derive(Clone, Copy)]
 pub struct Vertex {
     pub head: usize,
     pub len: usize,
@@ -10,7 +10,7 @@ pub struct Vertex {
 }
 
 // How much the tables hold at most.
-#[derive(Clone, Copy, PartialEq, Eq, Debug)]
+#[derive(Clone, Copy)]
 pub struct Capacity {
     pub vertices: usize,
     pub links: usize,

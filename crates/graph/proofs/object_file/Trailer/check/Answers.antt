@@ -1,0 +1,26 @@
+use mathlib.Core.Path.{_≡_, sym, _∙_}
+use mathlib.Core.Bool.{true}
+use native.Mathlib.Omega.{arith}
+use Rattle.std.proofs.shelf.Ways.{tells}
+use Rattle.graph.specs.ObjectFile.{recordAt, follows, every}
+use Rattle.graph.proofs.Files.{whole}
+use Rattle.graph.proofs.Order.{not-passed, rules-are}
+use Rattle.graph.proofs.object_file.Trailer.check.Needs as need
+
+pub record-link-requires : need.record-link-requires
+record-link-requires c κs = let w = whole (c .args .file .now) (c .args .self) (c .pre .trailer) in omega arith
+
+pub returns-then-not-is-in-order : need.returns-then-not-is-in-order
+returns-then-not-is-in-order c =
+    grind (arith, tells, rules-are (c .args .file .now) (c .args .self) (c .args .i) _ (c .record-link .ensures), c .is-in-order .ensures, c .then-not-is-in-order .either)
+
+pub start-of-start-requires : need.start-of-start-requires
+start-of-start-requires c κs =
+    let w = whole (c .args .file .now) (c .args .self) (c .pre .trailer) in
+    let all : every (c .args .i) (λ j. follows (recordAt (c .args .file .now) (c .args .self) j) (c .record-link .result)) ≡ true = sym (c .is-in-order .ensures) ∙ c .if-not-is-in-order .left in
+    record {
+      within = omega arith;
+      up = (not-passed (c .args .file .now) (c .args .self) (c .args .i) (c .args .scan) (c .record-link .result) (c .pre .scan) all, omega arith);
+      begins = c .pre .scan .0 .0;
+      small = c .pre .scan .0 .1;
+    }
