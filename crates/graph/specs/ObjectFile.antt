@@ -92,14 +92,14 @@ abbrev pub firstBroken : List ℕ → Trailer → Option ℕ
 firstBroken file t = lowestFailing (t .links) (keepsRules file t)
 
 -- the link that a record stands for
-abbrev pub linkOf : LinkRecord → Link
-linkOf r = record { position = r .position; child = r .child; width = valueOr (widthFrom (r .width)) Two }
+abbrev pub linkFrom : LinkRecord → Link
+linkFrom r = record { position = r .position; child = r .child; width = valueOr (widthFrom (r .width)) Two }
 
 -- a vertex of the file: its bytes, and the links of the records that name it as parent
 abbrev pub nodeOf : List ℕ → Trailer → ℕ → Node
 nodeOf file t v = record {
   bytes = part (startAt file t v) (lengthAt file t v) file;
-  links = map linkOf (kept-by (λ (r : LinkRecord). eqb (r .parent) v) (recordsOf file t));
+  links = map linkFrom (kept-by (λ (r : LinkRecord). eqb (r .parent) v) (recordsOf file t));
 }
 
 -- all vertices of the file

@@ -4,8 +4,9 @@ ghost use Prim.Native.Nat.{ℕ, _+_, _-_, _*_, _<_, _≤_};
 ghost use lib.ListN.{length};
 ghost use Rattle.std.specs.declared.option.Option.the-variants.{Some};
 ghost use Rattle.graph.specs.Objects.{zeros};
-ghost use Rattle.graph.specs.ObjectFile.{u32At, numbersOf, trailerOf, gapless, lengthAt, startAt, recordAt, soundAlone, follows, every, firstBroken};
+ghost use Rattle.graph.specs.ObjectFile.{u32At, numbersOf, trailerOf, gapless, lengthAt, startAt, recordAt, soundAlone, follows, every, firstBroken, linkFrom};
 ghost use Rattle.graph.specs.Scanning.{KeptBelow, ScannedTo, Checked};
+use crate::serialize::Link;
 use crate::serialize::LinkWidth;
 
 // How long the trailer is.
@@ -70,6 +71,17 @@ impl LinkRecord {
             earlier.parent < self.parent
         }
     }
+
+    // The link that the record stands for.
+    pub(crate) fn link(self) -> Link
+        ensures { λ r. ⌜ r ≡ linkFrom self ⌝ }
+    {
+        Link {
+            position: self.position,
+            child: self.child,
+            width: LinkWidth::new_checked(self.width as usize).unwrap_or(LinkWidth::Two),
+        }
+    }
 }
 
 impl Trailer {
@@ -114,7 +126,7 @@ impl Trailer {
     }
 
     // The length of a vertex.
-    fn length(self, file: &[u8], v: u32) -> u32
+    pub(crate) fn length(self, file: &[u8], v: u32) -> u32
         requires { ⌜ self .lengths + 4 * v + 4 ≤ length (now file) ⌝ }
         ensures { λ r. ⌜ r ≡ lengthAt (now (file .entry)) self v ⌝ }
     {
@@ -206,7 +218,10 @@ impl Trailer {
         requires { ⌜ trailerOf (now file) ≡ Some self ⌝ }
         ensures { λ r. ⌜ r ≡ firstBroken (now (file .entry)) self ⌝ }
     {
-        let mut scan = Scan { vertex: 0, start: 0 };
+        let mut scan = Scan {
+            vertex: 0,
+            start: 0,
+        };
         for i in 0..self.links {
             let Some(next) = self.check(file, i, scan) else {
                 return Some(i);

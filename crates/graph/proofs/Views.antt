@@ -1,0 +1,109 @@
+-- What the view says of the tables.
+use mathlib.Core.List.{List, map}
+use mathlib.Core.Path.{_≡_, refl, sym, ap, _∙_, subst}
+use Prim.Native.Nat.{ℕ, _+_, _<_, _≤_}
+use native.Mathlib.Omega.{arith}
+use lib.ListN.{length, drop}
+use Rattle.std.specs.Of.Vec.{vec-items, vec-len}
+use Rattle.std.specs.shelf.Lists.{sum}
+use Rattle.std.proofs.shelf.Lists.{length-map, length-take-le, length-drop, getD-map}
+use Rattle.std.proofs.shelf.Sums.{sumBy-more, sumBy-take-le}
+use Rattle.graph.specs.declared.vertex.Vertex.{Vertex}
+use Rattle.graph.specs.declared.vertex.Capacity.{Capacity}
+use Rattle.graph.specs.declared.serialize.Link.{Link}
+use Rattle.graph.specs.declared.tables.Graph.{Graph}
+use Rattle.graph.specs.Objects.{Node, noNode, nodeAt, part, Ascends, bytesAt, linksAt}
+use Rattle.graph.specs.Sound.{vertexAt, noVertex, segment, counts, linkTotal, Below, Apart, Placed, Ordered, Inside, Blank}
+use Rattle.graph.specs.Model.{node, view}
+
+pub length-part : {X : Type 0} (from n : ℕ) (xs : List X) → from + n ≤ length xs → length (part from n xs) ≡ n
+length-part from n xs h = length-take-le n (drop from xs) (simp length-drop (omega arith))
+
+-- a segment ends within the table
+segment-ends : (rs : List Vertex) → Placed rs → (v : ℕ) → v < length rs → vertexAt rs v .«first_link» + vertexAt rs v .«link_count» ≤ linkTotal rs
+segment-ends rs placed v h =
+    let n = length-map rs (λ (r : Vertex). r .«link_count») in
+    omega (arith, placed v h, getD-map (λ (r : Vertex). r .«link_count») rs v noVertex 0 h, sumBy-more (λ x. x) (counts rs) v 0 (omega (arith, n)), sumBy-take-le (λ x. x) (counts rs) (v + 1))
+
+abbrev pub made : List ℕ → List Link → Node
+made b ls = record { bytes = b; links = ls }
+
+pub same-node : (b b′ : List ℕ) (ls ls′ : List Link) → b ≡ b′ → ls ≡ ls′ → made b ls ≡ made b′ ls′
+same-node b b′ ls ls′ p q = cc
+
+abbrev pub rowOf : Graph → ℕ → Vertex
+rowOf g v = vertexAt (vec-items (g .vertices)) v
+
+abbrev pub nodeOf : Graph → ℕ → Node
+nodeOf g v = node (vec-items (g .bytes)) (vec-items (g .links)) (rowOf g v)
+
+module _ (g : Graph) where
+  pub count-is : length (view g .nodes) ≡ vec-len (g .vertices)
+  unfolding view
+  count-is = length-map (vec-items (g .vertices)) (node (vec-items (g .bytes)) (vec-items (g .links))) ∙ sym (g .vertices .ok .0)
+
+  pub mark-is : view g .mark ≡ vec-len (g .bytes)
+  unfolding view
+  mark-is = refl
+
+  pub capacity-is : view g .capacity ≡ g .capacity
+  unfolding view
+  capacity-is = refl
+
+  pub node-is : (v : ℕ) → v < vec-len (g .vertices) → nodeAt (view g .nodes) v ≡ nodeOf g v
+  unfolding view
+  node-is v h = getD-map (node (vec-items (g .bytes)) (vec-items (g .links))) (vec-items (g .vertices)) v noVertex noNode (omega (arith, g .vertices .ok .0))
+
+  pub bytes-long : (v : ℕ) → v < vec-len (g .vertices) → length (bytesAt (view g .nodes) v) ≡ rowOf g v .len
+  bytes-long v h =
+      ap (λ (x : Node). length (x .bytes)) (node-is v h)
+      ∙ length-part (rowOf g v .head) (rowOf g v .len) (vec-items (g .bytes)) (omega (arith, g .below v (omega (arith, g .vertices .ok .0)), g .bytes .ok .0))
+
+  pub links-end : (v : ℕ) → v < vec-len (g .vertices) → rowOf g v .«first_link» + rowOf g v .«link_count» ≤ vec-len (g .links)
+  links-end v h = omega (arith, segment-ends (vec-items (g .vertices)) (g .placed) v (omega (arith, g .vertices .ok .0)), g .covered)
+
+  pub links-long : (v : ℕ) → v < vec-len (g .vertices) → length (linksAt (view g .nodes) v) ≡ rowOf g v .«link_count»
+  links-long v h =
+      ap (λ (x : Node). length (x .links)) (node-is v h)
+      ∙ length-part (rowOf g v .«first_link») (rowOf g v .«link_count») (vec-items (g .links)) (omega (arith, links-end v h, g .links .ok .0))
+
+  pub links-up : (v : ℕ) → v < vec-len (g .vertices) → Ascends (linksAt (view g .nodes) v)
+  links-up v h =
+      subst (λ (x : Node). Ascends (x .links)) (sym (node-is v h)) (λ i j lt l. g .ordered v i j (omega (arith, g .vertices .ok .0), lt, l))
+
+-- what always holds of the tables, but for their capacities
+pub record Tables (rs : List Vertex) (ls : List Link) (bs : List ℕ) (mark total : ℕ) : Type 0 where
+  pub below : Below rs mark
+  pub apart : Apart rs
+  pub placed : Placed rs
+  pub covered : linkTotal rs ≡ total
+  pub ordered : Ordered rs ls
+  pub inside : Inside rs ls
+  pub blank : Blank rs ls bs
+
+-- the same of equal tables
+pub same-tables : {rs rs′ : List Vertex} {ls ls′ : List Link} {bs bs′ : List ℕ} {mark mark′ total total′ : ℕ} → Tables rs ls bs mark total
+    → rs′ ≡ rs → ls′ ≡ ls → bs′ ≡ bs → mark′ ≡ mark → total′ ≡ total → Tables rs′ ls′ bs′ mark′ total′
+same-tables {rs} {rs′} {ls} {ls′} {bs} {bs′} {mark} {mark′} {total} {total′} x er el eb em et =
+    subst (λ (a : List Vertex). Tables a ls′ bs′ mark′ total′) (sym er)
+    (subst (λ (a : List Link). Tables rs a bs′ mark′ total′) (sym el)
+    (subst (λ (a : List ℕ). Tables rs ls a mark′ total′) (sym eb)
+    (subst (λ (a : ℕ). Tables rs ls bs a total′) (sym em) (subst (λ (a : ℕ). Tables rs ls bs mark a) (sym et) x))))
+
+-- the ghost fields of a graph, in their order
+abbrev pub Ghosts : List Vertex → List Link → List ℕ → ℕ → ℕ → Type 0 → Type 0 → Type 0 → Type 0
+Ghosts rs ls bs mark total V L B = V × (L × (B × (Below rs mark × (Apart rs × (Placed rs × ((linkTotal rs ≡ total) × (Ordered rs ls × (Inside rs ls × (Blank rs ls bs × Unit {0})))))))))
+
+pub ghosts : {rs : List Vertex} {ls : List Link} {bs : List ℕ} {mark total : ℕ} {V L B : Type 0} → V → L → B → Tables rs ls bs mark total → Ghosts rs ls bs mark total V L B
+ghosts v l b x = (v, (l, (b, (x .below, (x .apart, (x .placed, (x .covered, (x .ordered, (x .inside, (x .blank, tt))))))))))
+
+-- what a graph stands for, from its tables
+pub view-made : (g : Graph) (rs : List Vertex) (ls : List Link) (bs : List ℕ) (nodes : List Node) (mark : ℕ) (capacity : Capacity)
+    → vec-items (g .vertices) ≡ rs → vec-items (g .links) ≡ ls → vec-items (g .bytes) ≡ bs → map (node bs ls) rs ≡ nodes → vec-len (g .bytes) ≡ mark → g .capacity ≡ capacity
+    → view g ≡ record { nodes = nodes; mark = mark; capacity = capacity }
+unfolding view
+view-made g rs ls bs nodes mark capacity er el eb en em ec =
+    let is : map (node (vec-items (g .bytes)) (vec-items (g .links))) (vec-items (g .vertices)) ≡ nodes =
+    ap (λ (a : List Vertex). map (node (vec-items (g .bytes)) (vec-items (g .links))) a) er
+    ∙ (ap (λ (a : List Link). map (node (vec-items (g .bytes)) a) rs) el ∙ (ap (λ (a : List ℕ). map (node a ls) rs) eb ∙ en)) in
+    cc
