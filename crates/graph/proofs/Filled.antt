@@ -16,19 +16,19 @@ use Rattle.std.proofs.shelf.Sums.{sumBy-more, sumBy-take-le}
 use Rattle.std.proofs.shelf.Counted.{length-map-counting, getD-map-counting}
 use Rattle.std.proofs.shelf.Tests.{and-parts, ltb-true, leb-true}
 use Rattle.std.proofs.shelf.Ways.{tells}
-use Rattle.graph.specs.declared.serialize.Link.{Link}
-use Rattle.graph.specs.declared.serialize.LinkWidth.the-variants.{Two}
+use Rattle.serialize.specs.declared.link.Link.{Link}
+use Rattle.serialize.specs.declared.link.LinkWidth.the-variants.{Two}
 use Rattle.graph.specs.declared.vertex.Vertex.{Vertex}
-use Rattle.graph.specs.declared.object_file.Trailer.{Trailer}
-use Rattle.graph.specs.declared.object_file.LinkRecord.{LinkRecord}
-use Rattle.graph.specs.Width.{widthOf, widthFrom}
-use Rattle.graph.specs.Objects.{Node, noNode, part, zeros, noLink, linkAt, endOf, fieldOf}
-use Rattle.graph.specs.ObjectFile.{lengthAt, lengthsOf, startAt, recordAt, recordsOf, soundAlone, linkFrom, nodeOf, nodesOf}
+use Rattle.serialize.specs.declared.object_file.Trailer.{Trailer}
+use Rattle.serialize.specs.declared.object_file.LinkRecord.{LinkRecord}
+use Rattle.serialize.specs.Width.{widthOf, widthFrom}
+use Rattle.serialize.specs.Objects.{Node, noNode, part, zeros, noLink, linkAt, endOf, fieldOf}
+use Rattle.serialize.specs.ObjectFile.{lengthAt, lengthsOf, startAt, recordAt, recordsOf, soundAlone, linkFrom, nodeOf, nodesOf}
 use Rattle.graph.specs.Filling.{Loadable, firstOf, rowAt, rowsOf, linksOf}
 use Rattle.graph.specs.Sound.{noVertex, vertexAt, segment, area, counts, linkTotal, Below, Owns, Apart, Placed, Ordered, Inside, Blank}
 use Rattle.graph.specs.Model.{node}
-use Rattle.graph.proofs.Files.{Whole, whole, start-more, start-end}
-use Rattle.graph.proofs.Order.{in-order, follows-out}
+use Rattle.serialize.proofs.Files.{Whole, whole, start-more, start-end}
+use Rattle.serialize.proofs.Order.{in-order, follows-out}
 use Rattle.graph.proofs.Segments.{records-long, record-is, first-le, first-up, first-none, first-all, kept, stretch, kept-stretch}
 use Rattle.graph.proofs.Views.{Tables, length-part, same-node}
 

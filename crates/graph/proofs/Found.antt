@@ -9,11 +9,11 @@ use lib.Dec.{eqb}
 use lib.ListN.{length, getD}
 use Rattle.std.proofs.shelf.Tests.{eq-eqb, ne-eqb, cases-order}
 use Rattle.std.specs.declared.option.Option.the-variants.{Some, None}
-use Rattle.graph.specs.declared.serialize.Link.{Link}
-use Rattle.graph.specs.declared.serialize.LinkWidth.{LinkWidth}
-use Rattle.graph.specs.declared.serialize.LinkWidth.the-variants.{Two, Three, Four}
-use Rattle.graph.specs.Objects.{linkAt, linkIn, Ascends}
-use Rattle.graph.specs.Width.{widthOf}
+use Rattle.serialize.specs.declared.link.Link.{Link}
+use Rattle.serialize.specs.declared.link.LinkWidth.{LinkWidth}
+use Rattle.serialize.specs.declared.link.LinkWidth.the-variants.{Two, Three, Four}
+use Rattle.serialize.specs.Objects.{linkAt, linkIn, Ascends}
+use Rattle.serialize.specs.Width.{widthOf}
 
 pub linkIn-some : (ls : List Link) (i pos : ℕ) → i < length ls → linkAt ls i .position ≡ pos → ((k : ℕ) → k < i → linkAt ls k .position < pos) → linkIn ls pos ≡ Some (linkAt ls i)
 linkIn-some [] i pos h t before = absurd (omega arith)

@@ -11,13 +11,13 @@ use Rattle.std.specs.shelf.Lists.{leading, kept-by}
 use Rattle.std.proofs.shelf.Sums.{leading-le-length}
 use Rattle.std.proofs.shelf.Counted.{length-map-counting, getD-map-counting}
 use Rattle.std.proofs.shelf.Tests.{and-parts, cases-eq, cases-lt, ltb-true, lt-ltb, le-ltb, ltb-false, eq-eqb, ne-eqb}
-use Rattle.graph.specs.declared.object_file.Trailer.{Trailer}
-use Rattle.graph.specs.declared.object_file.LinkRecord.{LinkRecord}
-use Rattle.graph.specs.Objects.{part}
-use Rattle.graph.specs.ObjectFile.{recordAt, recordsOf, soundAlone, keepsRules}
+use Rattle.serialize.specs.declared.object_file.Trailer.{Trailer}
+use Rattle.serialize.specs.declared.object_file.LinkRecord.{LinkRecord}
+use Rattle.serialize.specs.Objects.{part}
+use Rattle.serialize.specs.ObjectFile.{recordAt, recordsOf, soundAlone, keepsRules}
 use Rattle.graph.specs.Filling.{Loadable, firstOf}
-use Rattle.graph.proofs.Firsts.{none-out}
-use Rattle.graph.proofs.Order.{in-order, follows-parent}
+use Rattle.serialize.proofs.Firsts.{none-out}
+use Rattle.serialize.proofs.Order.{in-order, follows-parent}
 
 -- the longest front that passes
 module _ {X : Type 0} (p : X → Bool) (d : X) where

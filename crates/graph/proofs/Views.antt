@@ -10,9 +10,9 @@ use Rattle.std.proofs.shelf.Lists.{length-map, length-take-le, length-drop, get
 use Rattle.std.proofs.shelf.Sums.{sumBy-more, sumBy-take-le}
 use Rattle.graph.specs.declared.vertex.Vertex.{Vertex}
 use Rattle.graph.specs.declared.vertex.Capacity.{Capacity}
-use Rattle.graph.specs.declared.serialize.Link.{Link}
+use Rattle.serialize.specs.declared.link.Link.{Link}
 use Rattle.graph.specs.declared.tables.Graph.{Graph}
-use Rattle.graph.specs.Objects.{Node, noNode, nodeAt, part, Ascends, bytesAt, linksAt}
+use Rattle.serialize.specs.Objects.{Node, noNode, nodeAt, part, Ascends, bytesAt, linksAt}
 use Rattle.graph.specs.Sound.{vertexAt, noVertex, segment, counts, linkTotal, Below, Apart, Placed, Ordered, Inside, Blank}
 use Rattle.graph.specs.Model.{node, view}
 

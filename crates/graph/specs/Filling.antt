@@ -6,12 +6,12 @@ use lib.Dec.{ltb}
 use Rattle.std.specs.Iters.{counting}
 use Rattle.std.specs.shelf.Lists.{leading}
 use Rattle.std.specs.declared.option.Option.the-variants.{Some, None}
-use Rattle.graph.specs.declared.serialize.Link.{Link}
+use Rattle.serialize.specs.declared.link.Link.{Link}
 use Rattle.graph.specs.declared.vertex.Vertex.{Vertex}
 use Rattle.graph.specs.declared.vertex.Capacity.{Capacity}
-use Rattle.graph.specs.declared.object_file.Trailer.{Trailer}
-use Rattle.graph.specs.declared.object_file.LinkRecord.{LinkRecord}
-use Rattle.graph.specs.ObjectFile.{trailerOf, firstBroken, lengthAt, startAt, recordsOf, linkFrom}
+use Rattle.serialize.specs.declared.object_file.Trailer.{Trailer}
+use Rattle.serialize.specs.declared.object_file.LinkRecord.{LinkRecord}
+use Rattle.serialize.specs.ObjectFile.{trailerOf, firstBroken, lengthAt, startAt, recordsOf, linkFrom}
 
 -- a file that can be loaded: its trailer is this one, and every record keeps the rules
 abbrev pub Loadable : List ℕ → Trailer → Type 0

@@ -3,13 +3,13 @@ use mathlib.Core.List.{List, []}
 use mathlib.Core.List as list
 use Prim.Native.Nat.{ℕ, min}
 use Rattle.std.specs.Of.Vec.{vec-items, vec-len}
-use Rattle.graph.specs.declared.serialize.Link.{Link}
+use Rattle.serialize.specs.declared.link.Link.{Link}
 use Rattle.graph.specs.declared.vertex.Vertex.{Vertex}
 use Rattle.graph.specs.declared.vertex.Capacity.{Capacity}
-use Rattle.graph.specs.declared.object_file.Trailer.{Trailer}
+use Rattle.serialize.specs.declared.object_file.Trailer.{Trailer}
 use Rattle.graph.specs.declared.tables.Graph.{Graph}
-use Rattle.graph.specs.Objects.{Node}
-use Rattle.graph.specs.ObjectFile.{nodesOf}
+use Rattle.serialize.specs.Objects.{Node}
+use Rattle.serialize.specs.ObjectFile.{nodesOf}
 use Rattle.graph.specs.Sound.{area, segment}
 
 -- the objects, up to where bytes have been dealt out, and how much there may be

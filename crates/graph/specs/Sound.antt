@@ -7,8 +7,8 @@ use Prim.Native.Nat.{ℕ, _+_, _<_, _≤_}
 use lib.ListN.{length, getD, take}
 use Rattle.std.specs.shelf.Lists.{sum}
 use Rattle.graph.specs.declared.vertex.Vertex.{Vertex}
-use Rattle.graph.specs.declared.serialize.Link.{Link}
-use Rattle.graph.specs.Objects.{part, zeros, linkAt, endOf, fieldOf}
+use Rattle.serialize.specs.declared.link.Link.{Link}
+use Rattle.serialize.specs.Objects.{part, zeros, linkAt, endOf, fieldOf}
 
 -- a record of the vertex table, and what stands past its end
 abbrev pub noVertex : Vertex

@@ -2,9 +2,9 @@
 ghost use mathlib.Core.Path.{_≡_};
 ghost use Rattle.std.specs.Of.Vec.{vec-items, vec-len, vec-cap};
 ghost use Rattle.graph.specs.Sound.{Holds, Below, Apart, Placed, Ordered, Inside, Blank, linkTotal};
-use crate::serialize::Link;
 use crate::vertex::Capacity;
 use crate::vertex::Vertex;
+use serialize::link::Link;
 
 mod access;
 mod load;

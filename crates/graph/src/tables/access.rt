@@ -3,13 +3,13 @@ ghost use mathlib.Core.Path.{_≡_};
 ghost use Prim.Native.Nat.{ℕ, _+_, _<_, _≤_};
 ghost use lib.ListN.{length};
 ghost use Rattle.std.specs.Of.Vec.{vec-items, vec-len};
-ghost use Rattle.graph.specs.Objects.{bytesAt, linksAt, wordAt, linkIn, Ascends};
+ghost use Rattle.serialize.specs.Objects.{bytesAt, linksAt, wordAt, linkIn, Ascends};
 ghost use Rattle.graph.specs.Sound.{vertexAt};
 ghost use Rattle.graph.specs.Model.{view};
 use super::Graph;
-use crate::serialize::Link;
 use crate::vertex::Capacity;
 use crate::vertex::Vertex;
+use serialize::link::Link;
 
 // The link at `position`, in links whose fields ascend.
 fn find(links: &[Link], position: u32) -> Option<Link>

@@ -7,9 +7,9 @@ ghost use Rattle.std.specs.Of.Vec.{vec-items, vec-len, vec-cap};
 ghost use Rattle.graph.specs.Filling.{Loadable, Room, firstOf, rowsOf, linksOf};
 ghost use Rattle.graph.specs.Model.{view, withFile};
 use super::Graph;
-use crate::object_file::Trailer;
-use crate::serialize::Link;
 use crate::vertex::Vertex;
+use serialize::link::Link;
+use serialize::object_file::Trailer;
 
 // Where the records of `v` end, which begin at `first`.
 fn records_end(file: &[u8], trailer: Trailer, first: u32, v: u32) -> u32

@@ -3,9 +3,9 @@ ghost use mathlib.Core.Path.{_≡_};
 ghost use Rattle.std.specs.Of.Vec.{vec-len};
 ghost use Rattle.graph.specs.Model.{view, noObjects, capacityOf};
 use super::Graph;
-use crate::serialize::Link;
 use crate::vertex::Capacity;
 use crate::vertex::Vertex;
+use serialize::link::Link;
 
 // The most vertices, links and bytes that any graph holds.
 pub const MOST_VERTICES: usize = 20_000;

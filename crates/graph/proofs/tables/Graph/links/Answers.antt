@@ -4,9 +4,9 @@ use Prim.Native.Nat.{ℕ, _+_, _-_}
 use native.Mathlib.Omega.{arith}
 use lib.ListN.{take, drop}
 use Rattle.std.specs.Of.Vec.{vec-items}
-use Rattle.graph.specs.declared.serialize.Link.{Link}
+use Rattle.serialize.specs.declared.link.Link.{Link}
 use Rattle.graph.specs.declared.vertex.Vertex.{Vertex}
-use Rattle.graph.specs.Objects.{Node, Ascends, linksAt}
+use Rattle.serialize.specs.Objects.{Node, Ascends, linksAt}
 use Rattle.graph.specs.Sound.{segment}
 use Rattle.graph.specs.Model.{view}
 use Rattle.graph.proofs.Views.{node-is, links-up}

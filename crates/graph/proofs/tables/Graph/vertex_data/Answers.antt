@@ -5,7 +5,7 @@ use native.Mathlib.Omega.{arith}
 use lib.ListN.{take, drop}
 use Rattle.std.specs.Of.Vec.{vec-items}
 use Rattle.graph.specs.declared.vertex.Vertex.{Vertex}
-use Rattle.graph.specs.Objects.{Node}
+use Rattle.serialize.specs.Objects.{Node}
 use Rattle.graph.specs.Sound.{area}
 use Rattle.graph.proofs.Views.{node-is}
 use Rattle.graph.proofs.tables.Graph.vertex_data.Needs as need

@@ -1,6 +1,6 @@
 use Prim.Native.Nat.{ℕ, _-_, _<_, _≤_}
 use lib.ListN.{length}
-use Rattle.graph.specs.Objects.{linkAt}
+use Rattle.serialize.specs.Objects.{linkAt}
 use Rattle.graph.proofs.tables.access.find.Given as given
 
 abbrev pub Inv-loop-low : given.InvT-loop-low

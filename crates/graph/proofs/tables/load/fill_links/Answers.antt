@@ -4,10 +4,10 @@ use native.Mathlib.Omega.{arith}
 use Rattle.std.specs.Iters.{counting}
 use Rattle.std.proofs.shelf.Lists.{map-push}
 use Rattle.std.proofs.shelf.Counted.{map-counting-more}
-use Rattle.graph.specs.declared.serialize.Link.{Link}
-use Rattle.graph.specs.declared.object_file.LinkRecord.{LinkRecord}
-use Rattle.graph.specs.ObjectFile.{recordAt, linkFrom}
-use Rattle.graph.proofs.Files.{whole}
+use Rattle.serialize.specs.declared.link.Link.{Link}
+use Rattle.serialize.specs.declared.object_file.LinkRecord.{LinkRecord}
+use Rattle.serialize.specs.ObjectFile.{recordAt, linkFrom}
+use Rattle.serialize.proofs.Files.{whole}
 use Rattle.graph.proofs.tables.load.fill_links.Needs as need
 
 pub loop-i-again : need.loop-i-again

@@ -2,7 +2,7 @@ use mathlib.Core.List.{map}
 use mathlib.Core.Path.{_≡_}
 use Rattle.std.specs.Iters.{counting}
 use Rattle.std.specs.Of.Vec.{vec-items, vec-len, vec-cap}
-use Rattle.graph.specs.ObjectFile.{recordAt, linkFrom}
+use Rattle.serialize.specs.ObjectFile.{recordAt, linkFrom}
 use Rattle.graph.proofs.tables.load.fill_links.Given as given
 
 abbrev pub Inv-loop-i : given.InvT-loop-i

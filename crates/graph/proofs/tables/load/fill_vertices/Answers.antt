@@ -6,7 +6,7 @@ use Rattle.std.specs.Iters.{counting}
 use Rattle.std.proofs.shelf.Counted.{map-counting-more}
 use Rattle.graph.specs.declared.vertex.Vertex.{Vertex}
 use Rattle.graph.specs.Filling.{rowAt}
-use Rattle.graph.proofs.Files.{whole, start-more, start-end}
+use Rattle.serialize.proofs.Files.{whole, start-more, start-end}
 use Rattle.graph.proofs.Segments.{first-none, first-le, first-up}
 use Rattle.graph.proofs.tables.load.fill_vertices.Needs as need
 

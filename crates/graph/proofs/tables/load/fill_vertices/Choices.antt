@@ -3,7 +3,7 @@ use mathlib.Core.Path.{_≡_}
 use Prim.Native.Nat.{_≤_}
 use Rattle.std.specs.Iters.{counting}
 use Rattle.std.specs.Of.Vec.{vec-items, vec-len, vec-cap}
-use Rattle.graph.specs.ObjectFile.{startAt}
+use Rattle.serialize.specs.ObjectFile.{startAt}
 use Rattle.graph.specs.Filling.{firstOf, rowAt}
 use Rattle.graph.proofs.tables.load.fill_vertices.Given as given
 

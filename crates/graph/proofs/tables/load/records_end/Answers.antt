@@ -1,10 +1,10 @@
 use mathlib.Core.Path.{sym, ap, _∙_}
 use mathlib.Core.Logic.{_≢_}
-use Rattle.graph.specs.declared.object_file.LinkRecord.{LinkRecord}
-use Rattle.graph.specs.ObjectFile.{recordAt}
+use Rattle.serialize.specs.declared.object_file.LinkRecord.{LinkRecord}
+use Rattle.serialize.specs.ObjectFile.{recordAt}
 use Prim.Native.Nat.{_+_}
 use native.Mathlib.Omega.{arith}
-use Rattle.graph.proofs.Files.{whole}
+use Rattle.serialize.proofs.Files.{whole}
 use Rattle.graph.proofs.Segments.{first-le, first-before, first-after, first-is}
 use Rattle.graph.proofs.tables.load.records_end.Needs as need
 

@@ -1,5 +1,5 @@
 use Prim.Native.Nat.{ℕ, _+_, _-_, _<_, _≤_}
-use Rattle.graph.specs.ObjectFile.{recordAt}
+use Rattle.serialize.specs.ObjectFile.{recordAt}
 use Rattle.graph.proofs.tables.load.records_end.Given as given
 
 abbrev pub Inv-loop-i : given.InvT-loop-i

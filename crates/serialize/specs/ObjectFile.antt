@@ -9,13 +9,13 @@ use Rattle.std.specs.Options.{isSome, valueOr}
 use Rattle.std.specs.shelf.Lists.{sum, kept-by}
 use Rattle.std.specs.declared.option.Option.{Option}
 use Rattle.std.specs.declared.option.Option.the-variants.{Some, None}
-use Rattle.graph.specs.declared.serialize.Link.{Link}
-use Rattle.graph.specs.declared.serialize.LinkWidth.{LinkWidth}
-use Rattle.graph.specs.declared.serialize.LinkWidth.the-variants.{Two}
-use Rattle.graph.specs.declared.object_file.Trailer.{Trailer}
-use Rattle.graph.specs.declared.object_file.LinkRecord.{LinkRecord}
-use Rattle.graph.specs.Width.{widthFrom}
-use Rattle.graph.specs.Objects.{Node, part, zeros}
+use Rattle.serialize.specs.declared.link.Link.{Link}
+use Rattle.serialize.specs.declared.link.LinkWidth.{LinkWidth}
+use Rattle.serialize.specs.declared.link.LinkWidth.the-variants.{Two}
+use Rattle.serialize.specs.declared.object_file.Trailer.{Trailer}
+use Rattle.serialize.specs.declared.object_file.LinkRecord.{LinkRecord}
+use Rattle.serialize.specs.Width.{widthFrom}
+use Rattle.serialize.specs.Objects.{Node, part, zeros}
 
 -- the number that four bytes spell, the highest first
 abbrev pub u32At : List ℕ → ℕ → ℕ

@@ -1,9 +1,9 @@
 use mathlib.Core.Path.{sym}
 use borrow.Author.Count.{below-more}
 use native.Mathlib.Omega.{arith}
-use Rattle.graph.specs.ObjectFile.{keepsRules}
-use Rattle.graph.proofs.Firsts.{none-in, some-in}
-use Rattle.graph.proofs.object_file.Trailer.first_broken.Needs as need
+use Rattle.serialize.specs.ObjectFile.{keepsRules}
+use Rattle.serialize.proofs.Firsts.{none-in, some-in}
+use Rattle.serialize.proofs.object_file.Trailer.first_broken.Needs as need
 
 pub returns-in-rest : need.returns-in-rest
 returns-in-rest c = sym (some-in (c .args .self .links) (keepsRules (c .args .file .now) (c .args .self)) (c .loop-i .i) (omega arith) (c .loop-i .inv .0) (c .in-rest .ensures tt))

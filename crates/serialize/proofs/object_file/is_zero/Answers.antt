@@ -5,8 +5,8 @@ use lib.ListN.{getD, drop}
 use Prim.Native.Nat.{_+_}
 use Rattle.std.proofs.shelf.Lists.{at-drop-more, at-drop-all}
 use Rattle.std.proofs.shelf.Tests.{eq-eqb, ne-eqb}
-use Rattle.graph.specs.Objects.{zeros}
-use Rattle.graph.proofs.object_file.is_zero.Needs as need
+use Rattle.serialize.specs.Objects.{zeros}
+use Rattle.serialize.proofs.object_file.is_zero.Needs as need
 
 pub returns-then-b-ne0 : need.returns-then-b-ne0
 returns-then-b-ne0 c =

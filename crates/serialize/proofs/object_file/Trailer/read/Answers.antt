@@ -1,8 +1,8 @@
 use mathlib.Core.Path.{_≡_, sym, _∙_, ap}
 use native.Mathlib.Omega.{arith}
 use Rattle.std.proofs.shelf.Ways.{tells}
-use Rattle.graph.proofs.Files.{start-all}
-use Rattle.graph.proofs.object_file.Trailer.read.Needs as need
+use Rattle.serialize.proofs.Files.{start-all}
+use Rattle.serialize.proofs.object_file.Trailer.read.Needs as need
 
 pub returns-then-start-of-trailer : need.returns-then-start-of-trailer
 returns-then-start-of-trailer c =

@@ -4,8 +4,8 @@ use mathlib.Core.Bool.{cond}
 use lib.Dec.{eqb}
 use Rattle.std.specs.declared.option.Option.{Option}
 use Rattle.std.specs.declared.option.Option.the-variants.{Some, None}
-use Rattle.graph.specs.declared.serialize.LinkWidth.{LinkWidth}
-use Rattle.graph.specs.declared.serialize.LinkWidth.the-variants.{Two, Three, Four}
+use Rattle.serialize.specs.declared.link.LinkWidth.{LinkWidth}
+use Rattle.serialize.specs.declared.link.LinkWidth.the-variants.{Two, Three, Four}
 
 -- how many bytes a field has
 abbrev pub widthOf : LinkWidth → ℕ

@@ -1,10 +1,10 @@
 use mathlib.Core.Path.{ap, _∙_}
 use Prim.Native.Nat.{_-_}
 use native.Mathlib.Omega.{arith}
-use Rattle.graph.specs.declared.object_file.LinkRecord.{LinkRecord}
-use Rattle.graph.specs.ObjectFile.{follows}
-use Rattle.graph.proofs.Order.{ask-last}
-use Rattle.graph.proofs.object_file.Trailer.is_in_order.Needs as need
+use Rattle.serialize.specs.declared.object_file.LinkRecord.{LinkRecord}
+use Rattle.serialize.specs.ObjectFile.{follows}
+use Rattle.serialize.proofs.Order.{ask-last}
+use Rattle.serialize.proofs.object_file.Trailer.is_in_order.Needs as need
 
 pub returns-else-i-eq0 : need.returns-else-i-eq0
 returns-else-i-eq0 c =

@@ -12,8 +12,8 @@ use Rattle.std.proofs.shelf.Sums.{sumBy-more, sumBy-take-le}
 use Rattle.std.proofs.shelf.Tests.{and-parts, eqb-true}
 use Rattle.std.specs.declared.option.Option.the-variants.{Some, None}
 use Rattle.std.proofs.shelf.Counted.{length-map-counting, getD-map-counting}
-use Rattle.graph.specs.declared.object_file.Trailer.{Trailer}
-use Rattle.graph.specs.ObjectFile.{tagOf, numbersOf, gapless, trailerOf, lengthAt, lengthsOf, startAt}
+use Rattle.serialize.specs.declared.object_file.Trailer.{Trailer}
+use Rattle.serialize.specs.ObjectFile.{tagOf, numbersOf, gapless, trailerOf, lengthAt, lengthsOf, startAt}
 
 module _ (file : List ℕ) (t : Trailer) where
   lengths-long : length (lengthsOf file t) ≡ t .vertices

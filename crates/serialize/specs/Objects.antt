@@ -7,9 +7,9 @@ use lib.Dec.{eqb}
 use lib.ListN.{length, getD, take, drop}
 use Rattle.std.specs.declared.option.Option.{Option}
 use Rattle.std.specs.declared.option.Option.the-variants.{Some, None}
-use Rattle.graph.specs.declared.serialize.Link.{Link}
-use Rattle.graph.specs.declared.serialize.LinkWidth.the-variants.{Two}
-use Rattle.graph.specs.Width.{widthOf}
+use Rattle.serialize.specs.declared.link.Link.{Link}
+use Rattle.serialize.specs.declared.link.LinkWidth.the-variants.{Two}
+use Rattle.serialize.specs.Width.{widthOf}
 
 -- a vertex: its bytes, and its links in ascending order of their positions
 pub record Node : Type 0 where

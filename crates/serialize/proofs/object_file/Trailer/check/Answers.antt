@@ -2,10 +2,10 @@ use mathlib.Core.Path.{_≡_, sym, _∙_}
 use mathlib.Core.Bool.{true}
 use native.Mathlib.Omega.{arith}
 use Rattle.std.proofs.shelf.Ways.{tells}
-use Rattle.graph.specs.ObjectFile.{recordAt, follows, every}
-use Rattle.graph.proofs.Files.{whole}
-use Rattle.graph.proofs.Order.{not-passed, rules-are}
-use Rattle.graph.proofs.object_file.Trailer.check.Needs as need
+use Rattle.serialize.specs.ObjectFile.{recordAt, follows, every}
+use Rattle.serialize.proofs.Files.{whole}
+use Rattle.serialize.proofs.Order.{not-passed, rules-are}
+use Rattle.serialize.proofs.object_file.Trailer.check.Needs as need
 
 pub record-link-requires : need.record-link-requires
 record-link-requires c κs = let w = whole (c .args .file .now) (c .args .self) (c .pre .trailer) in omega arith

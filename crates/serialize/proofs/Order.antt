@@ -8,12 +8,12 @@ use native.Mathlib.Omega.{arith}
 use borrow.Author.Count.{below-more}
 use Rattle.std.proofs.shelf.Ways.{tells}
 use Rattle.std.proofs.shelf.Tests.{cases-bool, and-parts}
-use Rattle.graph.specs.declared.object_file.Trailer.{Trailer}
-use Rattle.graph.specs.declared.object_file.LinkRecord.{LinkRecord}
-use Rattle.graph.specs.declared.object_file.Scan.{Scan}
-use Rattle.graph.specs.ObjectFile.{recordAt, soundAlone, follows, every, keepsRules}
-use Rattle.graph.specs.Scanning.{KeptBelow, ScannedTo}
-use Rattle.graph.proofs.Firsts.{every-in, every-out, every-not}
+use Rattle.serialize.specs.declared.object_file.Trailer.{Trailer}
+use Rattle.serialize.specs.declared.object_file.LinkRecord.{LinkRecord}
+use Rattle.serialize.specs.declared.object_file.Scan.{Scan}
+use Rattle.serialize.specs.ObjectFile.{recordAt, soundAlone, follows, every, keepsRules}
+use Rattle.serialize.specs.Scanning.{KeptBelow, ScannedTo}
+use Rattle.serialize.proofs.Firsts.{every-in, every-out, every-not}
 
 pub follows-out : (p r : LinkRecord) → follows p r ≡ true → (p .parent < r .parent) ⊎ ((p .parent ≡ r .parent) × (p .position + p .width ≤ r .position))
 follows-out p r e = grind (arith, tells)

@@ -9,7 +9,7 @@ use Rattle.std.specs.declared.option.Option.{Option}
 use Rattle.std.specs.declared.option.Option.the-variants.{Some, None}
 use Rattle.std.proofs.shelf.Tests.{and-parts, and-from, cases-bool, both-ways, cases-eq}
 use mathlib.Core.Logic.{_⊎_, inl, inr}
-use Rattle.graph.specs.ObjectFile.{every, lowestFailing}
+use Rattle.serialize.specs.ObjectFile.{every, lowestFailing}
 
 rest : (o : Option ℕ) (b : Bool) (n : ℕ) → _≡_ {A = Option ℕ} (elim o [ None ↦ cond b None (Some n) | Some i ↦ Some i ]) None → (o ≡ None) × (b ≡ true)
 rest None true n e = (refl, refl)

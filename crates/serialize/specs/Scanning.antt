@@ -5,9 +5,9 @@ use mathlib.Core.Path.{_≡_}
 use Prim.Native.Nat.{ℕ, _+_, _*_, _<_, _≤_}
 use Rattle.std.specs.declared.option.Option.{Option}
 use Rattle.std.specs.declared.option.Option.the-variants.{Some, None}
-use Rattle.graph.specs.declared.object_file.Trailer.{Trailer}
-use Rattle.graph.specs.declared.object_file.Scan.{Scan}
-use Rattle.graph.specs.ObjectFile.{startAt, recordAt, keepsRules}
+use Rattle.serialize.specs.declared.object_file.Trailer.{Trailer}
+use Rattle.serialize.specs.declared.object_file.Scan.{Scan}
+use Rattle.serialize.specs.ObjectFile.{startAt, recordAt, keepsRules}
 
 -- the records before i keep every rule
 abbrev pub KeptBelow : List ℕ → Trailer → ℕ → Type 0

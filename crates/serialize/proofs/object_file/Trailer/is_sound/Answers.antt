@@ -1,12 +1,12 @@
 use borrow.Author.Needs.{needs}
 use mathlib.Core.Path.{_≡_, ap, _∙_}
 use Prim.Native.Nat.{ℕ, _+_, _-_}
-use Rattle.graph.specs.Objects.{part, zeros}
-use Rattle.graph.specs.ObjectFile.{startAt}
+use Rattle.serialize.specs.Objects.{part, zeros}
+use Rattle.serialize.specs.ObjectFile.{startAt}
 use native.Mathlib.Omega.{arith}
 use Rattle.std.proofs.shelf.Ways.{tells}
-use Rattle.graph.proofs.Files.{whole, start-end}
-use Rattle.graph.proofs.object_file.Trailer.is_sound.Needs as need
+use Rattle.serialize.proofs.Files.{whole, start-end}
+use Rattle.serialize.proofs.object_file.Trailer.is_sound.Needs as need
 
 pub length-requires : need.length-requires
 length-requires c κs = let w = whole (c .args .file .now) (c .args .self) (c .pre .trailer) in omega arith

@@ -1,6 +1,6 @@
 // Links.
 ghost use mathlib.Core.Path.{_≡_};
-ghost use Rattle.graph.specs.Width.{widthOf, widthFrom};
+ghost use Rattle.serialize.specs.Width.{widthOf, widthFrom};
 
 // How many bytes the field of a link has.
 #[derive(Clone, Copy, PartialEq, Eq, Debug)]

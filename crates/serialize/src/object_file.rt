@@ -3,11 +3,11 @@ ghost use mathlib.Core.Path.{_≡_};
 ghost use Prim.Native.Nat.{ℕ, _+_, _-_, _*_, _<_, _≤_};
 ghost use lib.ListN.{length};
 ghost use Rattle.std.specs.declared.option.Option.the-variants.{Some};
-ghost use Rattle.graph.specs.Objects.{zeros};
-ghost use Rattle.graph.specs.ObjectFile.{u32At, numbersOf, trailerOf, gapless, lengthAt, startAt, recordAt, soundAlone, follows, every, firstBroken, linkFrom};
-ghost use Rattle.graph.specs.Scanning.{KeptBelow, ScannedTo, Checked};
-use crate::serialize::Link;
-use crate::serialize::LinkWidth;
+ghost use Rattle.serialize.specs.Objects.{zeros};
+ghost use Rattle.serialize.specs.ObjectFile.{u32At, numbersOf, trailerOf, gapless, lengthAt, startAt, recordAt, soundAlone, follows, every, firstBroken, linkFrom};
+ghost use Rattle.serialize.specs.Scanning.{KeptBelow, ScannedTo, Checked};
+use crate::link::Link;
+use crate::link::LinkWidth;
 
 // How long the trailer is.
 pub const TRAILER_LEN: usize = 20;
@@ -73,7 +73,7 @@ impl LinkRecord {
     }
 
     // The link that the record stands for.
-    pub(crate) fn link(self) -> Link
+    pub fn link(self) -> Link
         ensures { λ r. ⌜ r ≡ linkFrom self ⌝ }
     {
         Link {
@@ -126,7 +126,7 @@ impl Trailer {
     }
 
     // The length of a vertex.
-    pub(crate) fn length(self, file: &[u8], v: u32) -> u32
+    pub fn length(self, file: &[u8], v: u32) -> u32
         requires { ⌜ self .lengths + 4 * v + 4 ≤ length (now file) ⌝ }
         ensures { λ r. ⌜ r ≡ lengthAt (now (file .entry)) self v ⌝ }
     {
@@ -150,7 +150,7 @@ impl Trailer {
     }
 
     // A link record.
-    pub(crate) fn record(self, file: &[u8], i: u32) -> LinkRecord
+    pub fn record(self, file: &[u8], i: u32) -> LinkRecord
         requires { ⌜ self .records + 16 * i + 16 ≤ length (now file) ⌝ }
         ensures { λ r. ⌜ r ≡ recordAt (now (file .entry)) self i ⌝ }
     {

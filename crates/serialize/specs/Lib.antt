@@ -1,0 +1,4 @@
+pub mod Width
+pub mod Objects
+pub mod ObjectFile
+pub mod Scanning

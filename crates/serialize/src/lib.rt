@@ -1,0 +1,3 @@
+// Links between objects, and the files that objects come in.
+pub mod link;
+pub mod object_file;
