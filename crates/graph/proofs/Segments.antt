@@ -16,8 +16,7 @@ use Rattle.serialize.specs.declared.object_file.LinkRecord.{LinkRecord}
 use Rattle.serialize.specs.Objects.{part}
 use Rattle.serialize.specs.ObjectFile.{recordAt, recordsOf, soundAlone, keepsRules}
 use Rattle.graph.specs.Filling.{Loadable, firstOf}
-use Rattle.serialize.proofs.Firsts.{none-out}
-use Rattle.serialize.proofs.Order.{in-order, follows-parent}
+use Rattle.serialize.proofs.Order.{in-order, follows-parent, all-keep}
 
 -- the longest front that passes
 module _ {X : Type 0} (p : X → Bool) (d : X) where
@@ -94,7 +93,7 @@ module _ (file : List ℕ) (t : Trailer) where
 
   module _ (ok : Loadable file t) where
     pub kept : (k : ℕ) → k < t .links → keepsRules file t k ≡ true
-    kept k h = none-out (t .links) (keepsRules file t) (ok .1) k h
+    kept = all-keep file t (ok .1)
 
     parents-up : (j k : ℕ) → j ≤ k → k < t .links → recordAt file t j .parent ≤ recordAt file t k .parent
     parents-up j k le h =

@@ -4,12 +4,13 @@ use mathlib.Core.List as list
 use Prim.Native.Nat.{ℕ, min}
 use Rattle.std.specs.Of.Vec.{vec-items, vec-len}
 use Rattle.serialize.specs.declared.link.Link.{Link}
+use Rattle.std.specs.shelf.Lists.{sum}
 use Rattle.graph.specs.declared.vertex.Vertex.{Vertex}
 use Rattle.graph.specs.declared.vertex.Capacity.{Capacity}
 use Rattle.serialize.specs.declared.object_file.Trailer.{Trailer}
 use Rattle.graph.specs.declared.tables.Graph.{Graph}
 use Rattle.serialize.specs.Objects.{Node}
-use Rattle.serialize.specs.ObjectFile.{nodesOf}
+use Rattle.serialize.specs.ObjectFile.{lengthsOf, nodesOf}
 use Rattle.graph.specs.Sound.{area, segment}
 
 -- the objects, up to where bytes have been dealt out, and how much there may be
@@ -38,6 +39,6 @@ capacityOf vertices links bytes = record { vertices = min vertices 20000; links 
 abbrev pub noObjects : Capacity → Model
 noObjects c = record { nodes = []; mark = 0; capacity = c }
 
--- the objects of a file, in place of others
+-- the objects of a file, in place of others; bytes are dealt out as far as they reach
 abbrev pub withFile : Model → List ℕ → Trailer → Model
-withFile m file t = record { nodes = nodesOf file t; mark = t .lengths; capacity = m .capacity }
+withFile m file t = record { nodes = nodesOf file t; mark = sum (lengthsOf file t); capacity = m .capacity }

@@ -42,6 +42,7 @@ taken true x y e = (refl, cc)
 taken false x y e = let z : _≡_ {A = ℕ} 0 1 = cc in absurd (omega arith)
 
 pub whole : (file : List ℕ) (t : Trailer) → trailerOf file ≡ Some t → Whole file t
+unfolding trailerOf
 whole file t e =
     let n = numbersOf file in
     let is = taken _ n t e in

@@ -8,12 +8,13 @@ use native.Mathlib.Omega.{arith}
 use borrow.Author.Count.{below-more}
 use Rattle.std.proofs.shelf.Ways.{tells}
 use Rattle.std.proofs.shelf.Tests.{cases-bool, and-parts}
+use Rattle.std.specs.declared.option.Option.the-variants.{None}
 use Rattle.serialize.specs.declared.object_file.Trailer.{Trailer}
 use Rattle.serialize.specs.declared.object_file.LinkRecord.{LinkRecord}
 use Rattle.serialize.specs.declared.object_file.Scan.{Scan}
-use Rattle.serialize.specs.ObjectFile.{recordAt, soundAlone, follows, every, keepsRules}
+use Rattle.serialize.specs.ObjectFile.{recordAt, soundAlone, follows, every, keepsRules, firstBroken}
 use Rattle.serialize.specs.Scanning.{KeptBelow, ScannedTo}
-use Rattle.serialize.proofs.Firsts.{every-in, every-out, every-not}
+use Rattle.serialize.proofs.Firsts.{every-in, every-out, every-not, none-out}
 
 pub follows-out : (p r : LinkRecord) → follows p r ≡ true → (p .parent < r .parent) ⊎ ((p .parent ≡ r .parent) × (p .position + p .width ≤ r .position))
 follows-out p r e = grind (arith, tells)
@@ -42,6 +43,11 @@ module _ (file : List ℕ) (t : Trailer) where
   -- the rules, of a record as it was read
   pub rules-are : (i : ℕ) (r : LinkRecord) → r ≡ recordAt file t i → keepsRules file t i ≡ (soundAlone file t r && every i (λ j. follows (recordAt file t j) r))
   rules-are i r e = ap (λ (x : LinkRecord). soundAlone file t x && every i (λ j. follows (recordAt file t j) x)) (sym e)
+
+  -- where no record is broken, each keeps the rules
+  pub all-keep : firstBroken file t ≡ None → (k : ℕ) → k < t .links → keepsRules file t k ≡ true
+  unfolding firstBroken
+  all-keep none k h = none-out (t .links) (keepsRules file t) none k h
 
   -- the scan has not passed the parent of a record in order
   pub not-passed : (i : ℕ) (s : Scan) (r : LinkRecord) → ScannedTo file t i s → every i (λ j. follows (recordAt file t j) r) ≡ true → s .vertex ≤ r .parent

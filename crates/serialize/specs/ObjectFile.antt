@@ -60,7 +60,7 @@ abbrev pub gapless : ℕ → Trailer → Bool
 gapless len t = eqb (t .lengths + 4 * t .vertices) (t .records) && eqb (t .records + 16 * t .links + 20) len
 
 -- a file's trailer, if it has one, its parts have no gaps and the lengths add up to the place where they stand
-abbrev pub trailerOf : List ℕ → Option Trailer
+unfoldable pub trailerOf : List ℕ → Option Trailer
 trailerOf file =
     cond (leb 20 (length file) && (eqb (tagOf file) 0x4D4B4F42 && (gapless (length file) (numbersOf file) && eqb (sum (lengthsOf file (numbersOf file))) (numbersOf file .lengths))))
     (Some (numbersOf file)) None
@@ -88,7 +88,7 @@ lowestFailing (suc n) p = elim (lowestFailing n p) [ None ↦ cond (p n) None (S
 abbrev pub keepsRules : List ℕ → Trailer → ℕ → Bool
 keepsRules file t i = soundAlone file t (recordAt file t i) && every i (λ j. follows (recordAt file t j) (recordAt file t i))
 
-abbrev pub firstBroken : List ℕ → Trailer → Option ℕ
+unfoldable pub firstBroken : List ℕ → Trailer → Option ℕ
 firstBroken file t = lowestFailing (t .links) (keepsRules file t)
 
 -- the link that a record stands for

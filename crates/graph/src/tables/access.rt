@@ -37,14 +37,16 @@ fn find(links: &[Link], position: u32) -> Option<Link>
 
 impl Graph {
     pub fn vertex_count(&self) -> usize
-        ensures { λ r. ⌜ r ≡ length (view (now (self .entry)) .nodes) ⌝ }
+        ensures value { λ r. ⌜ r ≡ length (view (now (self .entry)) .nodes) ⌝ }
+        ensures bound { λ r. ⌜ r ≤ 20000 ⌝ }
     {
         self.vertices.len()
     }
 
     // Up to where bytes have been dealt out.
     pub fn mark(&self) -> usize
-        ensures { λ r. ⌜ r ≡ view (now (self .entry)) .mark ⌝ }
+        ensures value { λ r. ⌜ r ≡ view (now (self .entry)) .mark ⌝ }
+        ensures bound { λ r. ⌜ r ≤ 4000000 ⌝ }
     {
         self.bytes.len()
     }

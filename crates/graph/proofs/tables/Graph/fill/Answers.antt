@@ -2,6 +2,7 @@ use mathlib.Core.Path.{_≡_, sym, ap, _∙_}
 use Prim.Native.Nat.{ℕ, _-_}
 use native.Mathlib.Omega.{arith}
 use lib.ListN.{length, take}
+use Rattle.serialize.proofs.Files.{whole}
 use Rattle.graph.proofs.Views.{capacity-is, same-tables, ghosts, view-made}
 use Rattle.graph.proofs.Filled.{tables-file, nodes-file, area-long}
 use Rattle.graph.proofs.tables.Graph.fill.Needs as need
@@ -60,5 +61,8 @@ returns c =
     let file = c .args .file .now in
     let e : t .lengths - 0 ≡ t .lengths = omega arith in
     let bytes = c .fill-bytes .ensures .items ∙ ap (λ (k : ℕ). take k file) e in
-    let mark = c .fill-bytes .ensures .len ∙ (ap (λ (k : ℕ). length (take k file)) e ∙ area-long file t (c .pre .loadable)) in
+    let mark = (c .fill-bytes .ensures .len ∙ (ap (λ (k : ℕ). length (take k file)) e ∙ area-long file t (c .pre .loadable))) ∙ sym (whole file t (c .pre .loadable .0) .adds-up) in
     view-made _ _ _ _ _ _ _ (c .fill-vertices .ensures .items) (c .fill-links .ensures .items) bytes (nodes-file file t (c .pre .loadable)) mark (sym (capacity-is g))
+
+pub part-fill-bytes-end : need.part-fill-bytes-end
+part-fill-bytes-end c = let w = whole (c .args .file .now) (c .args .trailer) (c .pre .loadable .0) in omega arith

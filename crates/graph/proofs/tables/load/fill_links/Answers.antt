@@ -17,3 +17,6 @@ loop-i-again c =
     let more = ap (λ (rs : List LinkRecord). map linkFrom rs) (map-counting-more f 0 i i (omega arith)) ∙ map-push linkFrom (map f (counting 0 i)) (f i) in
     let is = c .link .ensures ∙ ap linkFrom (c .record .ensures) in
     (c .push-reserved .ensures .items ∙ (ap (λ (ls : List Link). ls ++ c .link .result ∷ []) (c .loop-i .inv .0) ∙ (ap (λ (l : Link). map linkFrom (map f (counting 0 i)) ++ l ∷ []) is ∙ sym more)), omega arith, c .push-reserved .ensures .capacity ∙ c .loop-i .inv .2)
+
+pub record-requires : need.record-requires
+record-requires c κs = let w = whole (c .args .file .now) (c .args .trailer) (c .pre .loadable .0) in omega arith

@@ -43,3 +43,6 @@ loop-v-again c =
       omega (arith, start-more file t v (omega arith)),
       end,
     )
+
+pub length-len-requires : need.length-len-requires
+length-len-requires c κs = let w = whole (c .args .file .now) (c .args .trailer) (c .pre .loadable .0) in omega arith

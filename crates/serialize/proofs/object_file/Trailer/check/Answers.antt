@@ -1,4 +1,6 @@
-use mathlib.Core.Path.{_≡_, sym, _∙_}
+use mathlib.Core.Path.{_≡_, sym, ap, _∙_}
+use Prim.Native.Nat.{ℕ}
+use Rattle.serialize.specs.declared.object_file.LinkRecord.{LinkRecord}
 use mathlib.Core.Bool.{true}
 use native.Mathlib.Omega.{arith}
 use Rattle.std.proofs.shelf.Ways.{tells}
@@ -24,3 +26,19 @@ start-of-start-requires c κs =
       begins = c .pre .scan .0 .0;
       small = c .pre .scan .0 .1;
     }
+
+pub is-in-order-requires : need.is-in-order-requires
+is-in-order-requires c κs =
+    let w = whole (c .args .file .now) (c .args .self) (c .pre .trailer) in
+    record { within = omega arith; link = c .record-link .ensures; before = c .pre .before }
+
+pub returns : need.returns
+returns c =
+    let file = c .args .file .now in
+    let t = c .args .self in
+    let is = c .record-link .ensures in
+    let all = c .is-in-order .ensures in
+    let sound = c .is-sound .ensures in (
+      grind (arith, tells, rules-are file t (c .args .i) _ is, all, sound),
+      ((c .start-of-start .ensures .value, c .start-of-start .ensures .bound), (λ e. absurd (omega arith)), λ j e. ap (λ (r : LinkRecord). r .parent) is ∙ ap (λ (k : ℕ). recordAt file t k .parent) (omega arith)),
+    )

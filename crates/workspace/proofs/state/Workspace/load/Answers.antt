@@ -1,0 +1,35 @@
+use mathlib.Core.Path.{refl, sym, ap, _∙_, subst}
+use native.Mathlib.Omega.{arith}
+use lib.ListN.{length}
+use Rattle.std.proofs.shelf.Counted.{length-map-counting}
+use Rattle.serialize.specs.ObjectFile.{nodeOf}
+use Rattle.graph.specs.Model.{Model as Objects}
+use Rattle.graph.specs.Filling.{Room}
+use Rattle.workspace.specs.Model.{view}
+use Rattle.workspace.proofs.Views.{graph-is}
+use Rattle.workspace.proofs.Loads.{accepted, enough, view-loaded}
+use Rattle.workspace.proofs.state.Workspace.load.Needs as need
+
+pub fill-requires : need.fill-requires
+fill-requires c κs =
+    let w = c .args .self .now in
+    let t = c .in-Some .trailer in
+    record {
+      loadable = (sym (c .in-Some .ensures tt), sym (c .in-rest-first-broken .ensures tt));
+      room = subst (λ (g : Objects). Room (g .capacity) t) (graph-is w) (enough (view w) t (sym (c .in-rest-shortage .ensures tt)));
+    }
+
+pub ghost-self : need.ghost-self
+ghost-self c =
+    let w = c .args .self .now in
+    let t = c .in-Some .trailer in
+    let n = ap (λ (g : Objects). length (g .nodes)) (c .fill .ensures) ∙ length-map-counting (nodeOf (c .args .file .now) t) 0 (t .vertices) in
+    (w .first, (w .second, (w .clear, (omega (arith, n), tt))))
+
+pub returns : need.returns
+returns c =
+    let w = c .args .self .now in
+    let t = c .in-Some .trailer in
+    let file = c .args .file .now in
+    let is = sym (c .in-Some .ensures tt) in
+    (accepted (view w) file t is (sym (c .in-rest-shortage .ensures tt)) (sym (c .in-rest-first-broken .ensures tt)), (t, is, refl, view-loaded w _ file t (c .fill .ensures) refl refl refl refl refl))

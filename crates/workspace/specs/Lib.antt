@@ -1,0 +1,4 @@
+pub mod Rest
+pub mod Supply
+pub mod Model
+pub mod Loading

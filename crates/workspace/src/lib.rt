@@ -1,0 +1,3 @@
+// A workspace that holds an object graph, and its calls.
+pub mod state;
+pub mod supply;

@@ -1,0 +1,27 @@
+// The state of a workspace.
+ghost use Prim.Native.Nat.{_≤_};
+ghost use lib.ListN.{length};
+ghost use Rattle.std.specs.Of.Vec.{vec-items};
+ghost use Rattle.graph.specs.Model.{view as objects};
+ghost use Rattle.workspace.specs.Rest.{Zero, Clear};
+use graph::tables::Graph;
+
+mod calls;
+
+#[derive(Drop)]
+pub struct Workspace {
+    graph: Graph,
+    first_list: Vec<u32>,
+    second_list: Vec<u32>,
+    visited: Vec<bool>,
+    // How many vertices the last `load` made.
+    loaded: u32,
+    // The lookup that is open.
+    lookup: Option<u32>,
+    // Between calls the working lists are zero and the visit marks clear.
+    ghost first: { Zero (vec-items «first_list») },
+    ghost second: { Zero (vec-items «second_list») },
+    ghost clear: { Clear (vec-items visited) },
+    // No call takes a vertex away.
+    ghost kept: { loaded ≤ length (objects graph .nodes) },
+}
