@@ -12,7 +12,7 @@ use Rattle.graph.specs.declared.vertex.Vertex.{Vertex}
 use Rattle.graph.specs.declared.vertex.Capacity.{Capacity}
 use Rattle.serialize.specs.declared.link.Link.{Link}
 use Rattle.graph.specs.declared.tables.Graph.{Graph}
-use Rattle.serialize.specs.Objects.{Node, noNode, nodeAt, part, Ascends, bytesAt, linksAt}
+use Rattle.serialize.specs.Objects.{Node, noNode, nodeAt, part, Ascends, LinksFit, SoundObjects, bytesAt, linksAt}
 use Rattle.graph.specs.Sound.{vertexAt, noVertex, segment, counts, linkTotal, Below, Apart, Placed, Ordered, Inside, Blank}
 use Rattle.graph.specs.Model.{node, view}
 
@@ -107,3 +107,16 @@ view-made g rs ls bs nodes mark capacity er el eb en em ec =
     ap (λ (a : List Vertex). map (node (vec-items (g .bytes)) (vec-items (g .links))) a) er
     ∙ (ap (λ (a : List Link). map (node (vec-items (g .bytes)) a) rs) el ∙ (ap (λ (a : List ℕ). map (node a ls) rs) eb ∙ en)) in
     cc
+
+-- the objects of every graph are sound
+pub sound-objects : (g : Graph) → SoundObjects (view g .nodes)
+sound-objects g v h =
+    let n = count-is g in
+    let lt : v < vec-len (g .vertices) = omega arith in
+    let small : v < length (vec-items (g .vertices)) = omega (arith, g .vertices .ok .0) in
+    let long : length (vec-items (g .vertices)) ≡ length (view g .nodes) = sym (g .vertices .ok .0) ∙ sym n in (
+      links-up g v lt,
+      subst (λ (x : Node). LinksFit (length (view g .nodes)) x) (sym (node-is g v lt)) (λ i k.
+          let a = g .inside v i (small, k) in
+          (omega (arith, a .0, long), omega (arith, a .1, bytes-long g v lt, ap (λ (x : Node). length (x .bytes)) (node-is g v lt)), g .blank v i (small, k))),
+    )

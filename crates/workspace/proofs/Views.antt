@@ -1,9 +1,11 @@
 -- What the view says of the state.
-use mathlib.Core.Path.{_≡_, refl}
+use mathlib.Core.Path.{_≡_, refl, sym, subst}
 use Prim.Native.Nat.{ℕ}
 use Rattle.std.specs.Of.Vec.{vec-len}
 use Rattle.std.specs.declared.option.Option.{Option}
+use Rattle.serialize.specs.Objects.{SoundObjects}
 use Rattle.graph.specs.Model.{Model as Objects, view as objects}
+use Rattle.graph.proofs.Views.{sound-objects}
 use Rattle.workspace.specs.declared.state.Workspace.{Workspace}
 use Rattle.workspace.specs.Model.{longEnough, view}
 
@@ -26,3 +28,7 @@ unfolding view
 view-made w g a b d loaded lookup eg ea eb ed el eo =
     let lists : longEnough (objects (w .graph) .capacity) (vec-len (w .«first_list»)) (vec-len (w .«second_list»)) (vec-len (w .visited)) ≡ longEnough (g .capacity) a b d = rw (eg, ea, eb, ed) in
     cc
+
+-- the objects of every workspace are sound
+pub sound-view : (w : Workspace) → SoundObjects (view w .graph .nodes)
+sound-view w = subst (λ (g : Objects). SoundObjects (g .nodes)) (sym (graph-is w)) (sound-objects (w .graph))

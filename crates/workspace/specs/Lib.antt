@@ -2,3 +2,4 @@ pub mod Rest
 pub mod Supply
 pub mod Model
 pub mod Loading
+pub mod Reading

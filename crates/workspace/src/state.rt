@@ -7,6 +7,7 @@ ghost use Rattle.workspace.specs.Rest.{Zero, Clear};
 use graph::tables::Graph;
 
 mod calls;
+mod reads;
 
 #[derive(Drop)]
 pub struct Workspace {

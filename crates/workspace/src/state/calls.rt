@@ -1,9 +1,6 @@
 // The calls.
 ghost use mathlib.Core.Path.{_≡_};
-ghost use Prim.Native.Nat.{ℕ, _<_, _≤_};
-ghost use lib.ListN.{length};
-ghost use Rattle.std.specs.declared.option.Option.the-variants.{Some, None};
-ghost use Rattle.serialize.specs.Objects.{bytesAt, linksAt};
+ghost use Rattle.serialize.specs.Objects.{SoundObjects};
 ghost use Rattle.workspace.specs.Model.{view, newModel, AtRest, madeOf};
 ghost use Rattle.workspace.specs.Loading.{shortage, Loads};
 use super::Workspace;
@@ -50,7 +47,8 @@ impl Workspace {
 
     // Puts the objects of a file in the place of all that the workspace held, and answers how many vertices there are.
     pub fn load(&mut self, file: &[u8]) -> Result<u32, Refusal>
-        ensures { λ r. ⌜ Loads (view (now (self .entry))) (now (file .entry)) r (view (now (self .exit))) ⌝ }
+        ensures loads { λ r. ⌜ Loads (view (now (self .entry))) (now (file .entry)) r (view (now (self .exit))) ⌝ }
+        ensures sound { λ _. ⌜ SoundObjects (view (now (self .exit)) .graph .nodes) ⌝ }
     {
         let Some(trailer) = Trailer::read(file) else {
             return Err(Refusal::BadFile);

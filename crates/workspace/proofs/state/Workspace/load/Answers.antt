@@ -1,3 +1,4 @@
+use borrow.Author.Needs.{needs}
 use mathlib.Core.Path.{refl, sym, ap, _∙_, subst}
 use native.Mathlib.Omega.{arith}
 use lib.ListN.{length}
@@ -6,7 +7,7 @@ use Rattle.serialize.specs.ObjectFile.{nodeOf}
 use Rattle.graph.specs.Model.{Model as Objects}
 use Rattle.graph.specs.Filling.{Room}
 use Rattle.workspace.specs.Model.{view}
-use Rattle.workspace.proofs.Views.{graph-is}
+use Rattle.workspace.proofs.Views.{graph-is, sound-view}
 use Rattle.workspace.proofs.Loads.{accepted, enough, view-loaded}
 use Rattle.workspace.proofs.state.Workspace.load.Needs as need
 
@@ -26,10 +27,22 @@ ghost-self c =
     let n = ap (λ (g : Objects). length (g .nodes)) (c .fill .ensures) ∙ length-map-counting (nodeOf (c .args .file .now) t) 0 (t .vertices) in
     (w .first, (w .second, (w .clear, (omega (arith, n), tt))))
 
+pub returns-in-rest : need.returns-in-rest
+returns-in-rest c = record { loads = search needs; sound = sound-view _ }
+
+pub returns-in-Some-shortage : need.returns-in-Some-shortage
+returns-in-Some-shortage c = record { loads = search needs; sound = sound-view _ }
+
+pub returns-in-Some-first-broken : need.returns-in-Some-first-broken
+returns-in-Some-first-broken c = record { loads = search needs; sound = sound-view _ }
+
 pub returns : need.returns
 returns c =
     let w = c .args .self .now in
     let t = c .in-Some .trailer in
     let file = c .args .file .now in
     let is = sym (c .in-Some .ensures tt) in
-    (accepted (view w) file t is (sym (c .in-rest-shortage .ensures tt)) (sym (c .in-rest-first-broken .ensures tt)), (t, is, refl, view-loaded w _ file t (c .fill .ensures) refl refl refl refl refl))
+    record {
+      loads = (accepted (view w) file t is (sym (c .in-rest-shortage .ensures tt)) (sym (c .in-rest-first-broken .ensures tt)), (t, is, refl, view-loaded w _ file t (c .fill .ensures) refl refl refl refl refl));
+      sound = sound-view _;
+    }

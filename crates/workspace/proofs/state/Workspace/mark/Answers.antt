@@ -1,0 +1,7 @@
+use borrow.Author.Needs.{needs}
+use Rattle.workspace.specs.Model.{view}
+use Rattle.workspace.proofs.state.Workspace.mark.Needs as need
+
+pub returns : need.returns
+unfolding view
+returns c = search needs
