@@ -1,6 +1,8 @@
 -- The numbers by which a refusal is reported.
-use mathlib.Core.List.{List, [], _∷_}
+use mathlib.Core.List.{List, [], _∷_, _++_}
 use Prim.Native.Nat.{ℕ}
+use Rattle.std.specs.Written.{decimal}
+use Rattle.std.specs.shelf.Lists.{joined}
 use Rattle.refusal.specs.declared.Shortage.{Shortage}
 use Rattle.refusal.specs.declared.Shortage.the-variants.{Vertices, Links, Bytes, Lists}
 use Rattle.refusal.specs.declared.Part.{Part}
@@ -61,3 +63,8 @@ valuesOf AlreadyExtended = []
 -- all numbers of a refusal, in the order in which they are printed
 abbrev pub numbersOf : Refusal → List ℕ
 numbersOf r = numberOf r ∷ valuesOf r
+
+-- numbers in decimal digits, with single spaces (byte 32) between
+abbrev pub spaced : List ℕ → List ℕ
+spaced [] = []
+spaced (n ∷ ns) = decimal n ++ joined (λ m. 32 ∷ decimal m) ns

@@ -1,6 +1,9 @@
 // Why a call declines: one enum for all calls, and the numbers that each cause is reported by.
 ghost use mathlib.Core.Path.{_≡_};
-ghost use Rattle.refusal.specs.Numbers.{shortageNumber, partNumber, numberOf};
+ghost use Rattle.std.specs.Written.{decimal};
+ghost use Rattle.std.specs.declared.option.Option.the-variants.{Some};
+ghost use Rattle.refusal.specs.Numbers.{shortageNumber, partNumber, numberOf, numbersOf, spaced};
+use std::fmt;
 
 // What is too small for a file or for a split.
 #[derive(Clone, Copy, PartialEq, Eq, Debug)]
@@ -123,6 +126,54 @@ impl Refusal {
             Refusal::ClassTooLarge { .. } => 12,
             Refusal::NoRoom(_) => 13,
             Refusal::AlreadyExtended => 14,
+        }
+    }
+}
+
+pub impl fmt::Display for Shortage as ShortageDisplay {
+    ghost shown = { λ s. Some (decimal (shortageNumber s)) };
+
+    fn fmt<W: fmt::Write>(&self, f: &mut fmt::Formatter<W>) -> fmt::Result {
+        let number = self.number();
+        write!(f, "{number}")
+    }
+}
+
+pub impl fmt::Display for Part as PartDisplay {
+    ghost shown = { λ p. Some (decimal (partNumber p)) };
+
+    fn fmt<W: fmt::Write>(&self, f: &mut fmt::Formatter<W>) -> fmt::Result {
+        let number = self.number();
+        write!(f, "{number}")
+    }
+}
+
+// The cause's number and then its values, with single spaces between.
+pub impl fmt::Display for Refusal as RefusalDisplay {
+    ghost shown = { λ r. Some (spaced (numbersOf r)) };
+
+    fn fmt<W: fmt::Write>(&self, f: &mut fmt::Formatter<W>) -> fmt::Result {
+        let number = self.number();
+        match *self {
+            Refusal::BadFile
+            | Refusal::NoLookup
+            | Refusal::NothingOpen
+            | Refusal::AlreadyExtended => write!(f, "{number}"),
+            Refusal::FileTooLarge(shortage) | Refusal::NoRoom(shortage) => {
+                write!(f, "{number} {shortage}")
+            }
+            Refusal::BadLink { record: value }
+            | Refusal::LookupOpen { lookup: value }
+            | Refusal::BrokenLookup { place: value }
+            | Refusal::NoSubtable { count: value }
+            | Refusal::BadReach { reach: value } => write!(f, "{number} {value}"),
+            Refusal::BrokenPart {
+                subtable,
+                part,
+                place,
+            } => write!(f, "{number} {subtable} {part} {place}"),
+            Refusal::SharedPart { subtable, part } => write!(f, "{number} {subtable} {part}"),
+            Refusal::ClassTooLarge { subtable, class } => write!(f, "{number} {subtable} {class}"),
         }
     }
 }
