@@ -1,0 +1,26 @@
+-- The lines that are printed, with the line feed (byte 10) that ends each.
+use mathlib.Core.Path.{_≡_}
+use mathlib.Core.List.{List, [], _∷_, _++_}
+use Prim.Native.Nat.{ℕ, _^_, _<_}
+use lib.Chars.{codes}
+use lib.ListN.{getD}
+use Rattle.std.specs.Written.{decimal}
+use Rattle.refusal.specs.declared.Refusal.{Refusal}
+use Rattle.refusal.specs.Numbers.{numbersOf, spaced}
+use Rattle.lines.specs.Grammar.{Numeral}
+
+-- after a line that spells no command
+abbrev pub unknownLine : List ℕ
+unknownLine = codes "?" ++ (10 ∷ [])
+
+-- after a call that declined: what called it, and the numbers of the refusal
+abbrev pub refusedLine : List ℕ → Refusal → List ℕ
+refusedLine echo r = echo ++ (codes " refused " ++ (spaced (numbersOf r) ++ (10 ∷ [])))
+
+-- after a call that answered a number: what called it, and the number
+abbrev pub doneLine : List ℕ → ℕ → List ℕ
+doneLine echo n = echo ++ (codes " done " ++ (decimal n ++ (10 ∷ [])))
+
+-- the decimal digits of a number of 32 bits are a numeral that spells it, and a zero in front stands alone
+abbrev pub DigitsSpell : Type 0
+DigitsSpell = (n : ℕ) → n < 2 ^ 32 → Numeral n (decimal n) × (getD (decimal n) 0 0 ≡ 48 → decimal n ≡ 48 ∷ [])

@@ -1,0 +1,43 @@
+// The lines that are printed, each with the line feed that ends it.
+ghost use mathlib.Core.Path.{_≡_};
+ghost use mathlib.Core.List.{_++_};
+ghost use Rattle.std.specs.Of.Vec.{vec-items};
+ghost use Rattle.std.specs.Vec.{made};
+ghost use Rattle.lines.specs.Printed.{unknownLine, refusedLine, doneLine, DigitsSpell};
+use refusal::Refusal;
+use refusal::RefusalDisplay;
+use std::alloc::AllocError;
+use std::alloc::Global;
+
+// After a line that spells no command.
+pub fn unknown_line(heap: Global) -> Result<Vec<u8>, AllocError>
+    ensures { λ r. ⌜ made r (λ v. vec-items v ≡ unknownLine) ⌝ }
+{
+    Vec::from_slice(heap, b"?\n")
+}
+
+// After a call that declined. The echo is what called it, as it came.
+pub fn refused_line(heap: Global, echo: &[u8], refusal: Refusal) -> Result<Vec<u8>, AllocError>
+    ensures line { λ r. ⌜ made r (λ v. vec-items v ≡ refusedLine (now (echo .entry)) refusal) ⌝ }
+    ensures digits { λ _. ⌜ DigitsSpell ⌝ }
+{
+    let said = format!(heap, " refused {refusal}\n")?;
+    reply(heap, echo, said.as_str())
+}
+
+// After a call that answered a number.
+pub fn done_line(heap: Global, echo: &[u8], answer: u32) -> Result<Vec<u8>, AllocError>
+    ensures { λ r. ⌜ made r (λ v. vec-items v ≡ doneLine (now (echo .entry)) answer) ⌝ }
+{
+    let said = format!(heap, " done {answer}\n")?;
+    reply(heap, echo, said.as_str())
+}
+
+// What called, and what is said of the call.
+fn reply(heap: Global, echo: &[u8], said: &str) -> Result<Vec<u8>, AllocError>
+    ensures { λ r. ⌜ made r (λ v. vec-items v ≡ now (echo .entry) ++ now (said .entry)) ⌝ }
+{
+    let mut line = Vec::from_slice(heap, echo)?;
+    line.extend_from_slice(said.as_bytes())?;
+    Ok(line)
+}
