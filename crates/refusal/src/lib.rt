@@ -134,8 +134,8 @@ pub impl fmt::Display for Shortage as ShortageDisplay {
     ghost shown = { λ s. Some (decimal (shortageNumber s)) };
 
     fn fmt<W: fmt::Write>(&self, f: &mut fmt::Formatter<W>) -> fmt::Result {
-        let number = self.number();
-        write!(f, "{number}")
+        let shortage = self.number();
+        write!(f, "{shortage}")
     }
 }
 
@@ -143,8 +143,8 @@ pub impl fmt::Display for Part as PartDisplay {
     ghost shown = { λ p. Some (decimal (partNumber p)) };
 
     fn fmt<W: fmt::Write>(&self, f: &mut fmt::Formatter<W>) -> fmt::Result {
-        let number = self.number();
-        write!(f, "{number}")
+        let part = self.number();
+        write!(f, "{part}")
     }
 }
 
