@@ -18,7 +18,7 @@ use Rattle.lines.specs.Grammar.{spelled}
 use Rattle.lines.specs.Printed.{DigitsSpell}
 
 -- `allDigits` and `spelled` are the shelf's digits and their value
-pub own : Numerals (λ ds. allDigits ds ≡ true) (spelled 0)
+own : Numerals (λ ds. allDigits ds ≡ true) (spelled 0)
 own = numerals-by-fold _ tells-allDigits spelled (search needs)
 
 pub digit-in : (ds : List ℕ) (i : ℕ) → allDigits ds ≡ true → i < length ds → In 48 57 (getD ds i 0)

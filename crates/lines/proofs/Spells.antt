@@ -3,7 +3,7 @@ use mathlib.Core.Path.{_≡_, refl, sym, ap, _∙_, subst}
 use mathlib.Core.Bool.{Bool, true, false, cond}
 use mathlib.Core.List.{List, [], _∷_, _++_}
 use mathlib.Core.Logic.{_⊎_, inl, inr}
-use Prim.Native.Nat.{ℕ, _+_, _^_, _<_}
+use Prim.Native.Nat.{ℕ, _^_, _<_}
 use native.Mathlib.Omega.{arith}
 use native.Mathlib.Numerals.{one-add}
 use lib.Dec.{eqb, ltb}
@@ -107,8 +107,8 @@ alone-some : (x : ℕ × List ℕ) (n : ℕ) → alone x ≡ Some n → x ≡ (n
 alone-some x n e =
     let p = when-some (eqb (length (x .1)) 0) (x .0) n e in
     let q = nil-from-length (x .1) (eqb-true (length (x .1)) 0 (p .0)) in
-    let e : (x .0, x .1) ≡ (n, []) = cc in
-    e
+    let pair : (x .0, x .1) ≡ (n, []) = cc in
+    pair
 
 module _ {P : ℕ → List ℕ → Type 0} {read : List ℕ → Option (ℕ × List ℕ)} (f : Finds P read) where
   last-to : (n : ℕ) (ds : List ℕ) → P n ds → (read (32 ∷ ds) ⟫ alone) ≡ Some n

@@ -1,4 +1,4 @@
--- One step of reading a number.
+-- One step of reading a number or a command.
 use mathlib.Core.Path.{_≡_, refl, ap}
 use mathlib.Core.List.{List, [], _∷_}
 use Prim.Native.Nat.{ℕ, _≤_, _<_}

@@ -9,15 +9,15 @@ use Rattle.refusal.specs.declared.Refusal.{Refusal}
 use Rattle.refusal.specs.Numbers.{numbersOf, spaced}
 use Rattle.lines.specs.Grammar.{Numeral}
 
--- after a line that spells no command
+-- the answer to a line that spells no command
 abbrev pub unknownLine : List ℕ
 unknownLine = codes "?" ++ (10 ∷ [])
 
--- after a call that declined: what called it, and the numbers of the refusal
+-- the answer to a call that declined: its echo, and the numbers of the refusal
 abbrev pub refusedLine : List ℕ → Refusal → List ℕ
 refusedLine echo r = echo ++ (codes " refused " ++ (spaced (numbersOf r) ++ (10 ∷ [])))
 
--- after a call that answered a number: what called it, and the number
+-- the answer to a call that gave a number: its echo, and the number
 abbrev pub doneLine : List ℕ → ℕ → List ℕ
 doneLine echo n = echo ++ (codes " done " ++ (decimal n ++ (10 ∷ [])))
 

@@ -9,14 +9,14 @@ use refusal::RefusalDisplay;
 use std::alloc::AllocError;
 use std::alloc::Global;
 
-// After a line that spells no command.
+// The answer to a line that spells no command.
 pub fn unknown_line(heap: Global) -> Result<Vec<u8>, AllocError>
     ensures { λ r. ⌜ made r (λ v. vec-items v ≡ unknownLine) ⌝ }
 {
     Vec::from_slice(heap, b"?\n")
 }
 
-// After a call that declined. The echo is what called it, as it came.
+// The answer to a call that declined: its echo, which may have any bytes, and the numbers of the refusal.
 pub fn refused_line(heap: Global, echo: &[u8], refusal: Refusal) -> Result<Vec<u8>, AllocError>
     ensures line { λ r. ⌜ made r (λ v. vec-items v ≡ refusedLine (now (echo .entry)) refusal) ⌝ }
     ensures digits { λ _. ⌜ DigitsSpell ⌝ }
@@ -25,7 +25,7 @@ pub fn refused_line(heap: Global, echo: &[u8], refusal: Refusal) -> Result<Vec<u
     reply(heap, echo, said.as_str())
 }
 
-// After a call that answered a number.
+// The answer to a call that gave a number: its echo, and the number.
 pub fn done_line(heap: Global, echo: &[u8], answer: u32) -> Result<Vec<u8>, AllocError>
     ensures { λ r. ⌜ made r (λ v. vec-items v ≡ doneLine (now (echo .entry)) answer) ⌝ }
 {
@@ -33,7 +33,7 @@ pub fn done_line(heap: Global, echo: &[u8], answer: u32) -> Result<Vec<u8>, Allo
     reply(heap, echo, said.as_str())
 }
 
-// What called, and what is said of the call.
+// The echo of a call, and what is said of it.
 fn reply(heap: Global, echo: &[u8], said: &str) -> Result<Vec<u8>, AllocError>
     ensures { λ r. ⌜ made r (λ v. vec-items v ≡ now (echo .entry) ++ now (said .entry)) ⌝ }
 {
