@@ -1,0 +1,5 @@
+// Object files that load and object files that do not.
+#[cfg(test)]
+mod files;
+#[cfg(test)]
+mod tests;
