@@ -1,0 +1,3 @@
+pub mod Computing
+pub mod Growing
+pub mod Theory

@@ -1,0 +1,4 @@
+pub mod Computed
+pub mod Cutting
+pub mod Shortest
+pub mod SplitPoints
