@@ -5,9 +5,9 @@ use Prim.Native.Nat.{ℕ, _+_, _<_, _≤_}
 use native.Mathlib.Decide.{decLt}
 use native.Mathlib.Omega.{arith}
 use lib.ListN.{length, take, drop, set, replicate}
-use Rattle.std.proofs.shelf.Lists.{take-more-set, drop-set-lt, drop-drop, length-set}
+use Rattle.std.proofs.shelf.Lists.{take-more-set, take-replicate, take-append-drop, drop-set-lt, drop-drop}
 use Rattle.cutting.specs.Cutting.{Greedy, EachFits, LowestExceeds}
-use Rattle.cutting.specs.SplitPoints.{Classes, Cut}
+use Rattle.cutting.specs.SplitPoints.{Classes, Clear, Cut}
 use Rattle.cutting.proofs.Theory.{alone, in-front}
 
 -- the list new holds the n places of a greedy cutting before the run start .. end, whatever comes after it, and then what the list old holds
@@ -49,3 +49,10 @@ module _ {cs : Classes} {r : ℕ} {old : List ℕ} where
     pub growing-all : end ≡ cs .count → n ≤ length new → Cut cs r n old new
     growing-all e room =
         record { within = room; greedy = rw append-nil at (s .chain [] (alone (omega (arith, s .holds)) (rw e at (s .fits)))); rest = s .rest }
+
+    -- a list that was clear is as it was once the places in it are zero
+    pub growing-cleared : Clear old → n ≤ length old → replicate n 0 ++ drop n new ≡ old
+    growing-cleared clear le =
+        ap (λ xs. replicate n 0 ++ xs) (s .rest)
+        ∙ ap (λ xs. xs ++ drop n old) (sym (ap (take n) clear ∙ take-replicate n (length old) 0 le))
+        ∙ take-append-drop n old
