@@ -1,12 +1,12 @@
 -- A loop that cuts greedily.
-use mathlib.Core.Path.{_≡_, refl, sym, ap, _∙_}
+use mathlib.Core.Path.{_≡_, sym, ap, _∙_}
 use mathlib.Core.List.{List, [], _∷_, _++_, append-assoc, append-nil}
 use Prim.Native.Nat.{ℕ, _+_, _<_, _≤_}
 use native.Mathlib.Decide.{decLt}
 use native.Mathlib.Omega.{arith}
 use lib.ListN.{length, take, drop, set, replicate}
 use Rattle.std.proofs.shelf.Lists.{take-more-set, take-replicate, take-append-drop, drop-set-lt, drop-drop}
-use Rattle.cutting.specs.Cutting.{Greedy, EachFits, LowestExceeds}
+use Rattle.cutting.specs.Cutting.{Greedy, EachFits}
 use Rattle.cutting.specs.SplitPoints.{Classes, Clear, Cut}
 use Rattle.cutting.proofs.Theory.{alone, in-front}
 
@@ -19,40 +19,36 @@ pub record Growing (cs : Classes) (r start end n : ℕ) (old new : List ℕ) : T
   pub each : EachFits (cs .size) r start
   pub rest : drop n new ≡ drop n old
 
-module _ {cs : Classes} {r : ℕ} {old : List ℕ} where
-  pub growing-none : cs .size 0 1 ≤ r → Growing cs r 0 1 0 old old
-  growing-none fit = record { holds = omega arith; fits = fit; count = omega arith; chain = λ qs g. g; each = λ c h. absurd (omega arith); rest = refl }
+module _ {cs : Classes} {r start end n : ℕ} {old new : List ℕ} (s : Growing cs r start end n old new) where
+  -- the run takes the next class
+  pub growing-on : cs .size start (end + 1) ≤ r → Growing cs r start (end + 1) n old new
+  growing-on fit = record { holds = omega (arith, s .holds); fits = fit; count = s .count; chain = s .chain; each = s .each; rest = s .rest }
 
-  module _ {start end n : ℕ} {new : List ℕ} (s : Growing cs r start end n old new) where
-    -- the run takes the next class
-    pub growing-on : cs .size start (end + 1) ≤ r → Growing cs r start (end + 1) n old new
-    growing-on fit = record { holds = omega (arith, s .holds); fits = fit; count = s .count; chain = s .chain; each = s .each; rest = s .rest }
+  -- each class up to the end of the run fits alone
+  pub each-fits : EachFits (cs .size) r end
+  each-fits c h =
+      elim (decLt c start) [ yes b ↦ s .each c b | no b ↦ let m = cs .monotone start c (c + 1) end (omega arith) (omega arith) (omega arith) in omega (arith, s .fits) ]
 
-    -- each class up to the end of the run fits alone
-    pub each-fits : EachFits (cs .size) r end
-    each-fits c h =
-        elim (decLt c start) [ yes b ↦ s .each c b | no b ↦ let m = cs .monotone start c (c + 1) end (omega arith) (omega arith) (omega arith) in omega (arith, s .fits) ]
+  -- the next class begins a run
+  pub growing-cut : r < cs .size start (end + 1) → cs .size end (end + 1) ≤ r → n < length new → Growing cs r end (end + 1) (n + 1) old (set new n end)
+  growing-cut over fit room =
+      record {
+        holds = omega arith;
+        fits = fit;
+        count = omega (arith, s .count, s .holds);
+        chain = λ qs g. rw (take-more-set new n end room) (rw append-assoc (s .chain (end ∷ qs) (in-front (s .holds) (s .fits) over g)));
+        each = each-fits;
+        rest = drop-set-lt (n + 1) new n end (omega arith) ∙ sym (drop-drop 1 n new) ∙ ap (drop 1) (s .rest) ∙ drop-drop 1 n old;
+      }
 
-    -- the next class begins a run
-    pub growing-cut : r < cs .size start (end + 1) → cs .size end (end + 1) ≤ r → n < length new → Growing cs r end (end + 1) (n + 1) old (set new n end)
-    growing-cut over fit room =
-        record {
-          holds = omega arith;
-          fits = fit;
-          count = omega (arith, s .count, s .holds);
-          chain = λ qs g. rw (take-more-set new n end room) (rw append-assoc (s .chain (end ∷ qs) (in-front (s .holds) (s .fits) over g)));
-          each = each-fits;
-          rest = drop-set-lt (n + 1) new n end (omega arith) ∙ sym (drop-drop 1 n new) ∙ ap (drop 1) (s .rest) ∙ drop-drop 1 n old;
-        }
+  -- the run ends with the last class
+  pub growing-all : end ≡ cs .count → n ≤ length new → Cut cs r n old new
+  growing-all e room =
+      record { within = room; greedy = rw append-nil at (s .chain [] (alone (omega (arith, s .holds)) (rw e at (s .fits)))); rest = s .rest }
 
-    -- the run ends with the last class
-    pub growing-all : end ≡ cs .count → n ≤ length new → Cut cs r n old new
-    growing-all e room =
-        record { within = room; greedy = rw append-nil at (s .chain [] (alone (omega (arith, s .holds)) (rw e at (s .fits)))); rest = s .rest }
-
-    -- a list that was clear is as it was once the places in it are zero
-    pub growing-cleared : Clear old → n ≤ length old → replicate n 0 ++ drop n new ≡ old
-    growing-cleared clear le =
-        ap (λ xs. replicate n 0 ++ xs) (s .rest)
-        ∙ ap (λ xs. xs ++ drop n old) (sym (ap (take n) clear ∙ take-replicate n (length old) 0 le))
-        ∙ take-append-drop n old
+  -- a list that was clear is as it was once the places in it are zero
+  pub growing-cleared : Clear old → n ≤ length old → replicate n 0 ++ drop n new ≡ old
+  growing-cleared clear le =
+      ap (λ xs. replicate n 0 ++ xs) (s .rest)
+      ∙ ap (λ xs. xs ++ drop n old) (sym (ap (take n) clear ∙ take-replicate n (length old) 0 le))
+      ∙ take-append-drop n old

@@ -23,6 +23,9 @@ pub trait Sizing {
     // The classes, with the size of each run of them.
     ghost classes: { Self → Classes };
 
+    // What holds between calls.
+    ghost ready: { Self → Type 0 };
+
     // The run start .. end is the one that is grown.
     ghost runs: { Self → ℕ → ℕ → Type 0 };
 
@@ -32,21 +35,26 @@ pub trait Sizing {
     ghost joins: { (s t u : Self) → keeps s t → keeps t u → keeps s u };
 
     fn class_count(&self) -> u32
+        requires { ⌜ ready (now self) ⌝ }
         ensures { λ r. ⌜ r ≡ classes (now (self .entry)) .count ⌝ };
 
     // Begins a run with this class alone, and tells its size.
     fn start(&mut self, class: u32) -> usize
-        requires { ⌜ class < classes (now self) .count ⌝ }
+        requires ready { ⌜ ready (now self) ⌝ }
+        requires within { ⌜ class < classes (now self) .count ⌝ }
         ensures size { λ r. ⌜ r ≡ classes (now (self .entry)) .size class (class + 1) ⌝ }
+        ensures ready { λ _. ⌜ ready (now (self .exit)) ⌝ }
         ensures run { λ _. ⌜ runs (now (self .exit)) class (class + 1) ⌝ }
         ensures same { λ _. ⌜ classes (now (self .exit)) ≡ classes (now (self .entry)) ⌝ }
         ensures keeps { λ _. ⌜ keeps (now (self .entry)) (now (self .exit)) ⌝ };
 
     // Takes the class after the run start .. class into it, and tells its size.
     fn grow(&mut self, start: u32, class: u32) -> usize
+        requires ready { ⌜ ready (now self) ⌝ }
         requires within { ⌜ class < classes (now self) .count ⌝ }
         requires run { ⌜ runs (now self) start class ⌝ }
         ensures size { λ r. ⌜ r ≡ classes (now (self .entry)) .size start (class + 1) ⌝ }
+        ensures ready { λ _. ⌜ ready (now (self .exit)) ⌝ }
         ensures run { λ _. ⌜ runs (now (self .exit)) start (class + 1) ⌝ }
         ensures same { λ _. ⌜ classes (now (self .exit)) ≡ classes (now (self .entry)) ⌝ }
         ensures keeps { λ _. ⌜ keeps (now (self .entry)) (now (self .exit)) ⌝ };
@@ -67,10 +75,12 @@ pub fn compute_split_points<S: Sizing>(
     reach: usize,
     points: &mut [u32],
 ) -> Result<usize, u32>
+    requires ready { ⌜ S·Sizing .ready (now sizes) ⌝ }
     requires some { ⌜ 0 < S·Sizing .classes (now sizes) .count ⌝ }
     requires room { ⌜ S·Sizing .classes (now sizes) .count ≤ length (now points) ⌝ }
     requires clear { ⌜ Clear (now points) ⌝ }
     ensures points { λ r. ⌜ SplitPoints (S·Sizing .classes (now (sizes .entry))) reach r (now (points .entry)) (now (points .exit)) ⌝ }
+    ensures ready { λ _. ⌜ S·Sizing .ready (now (sizes .exit)) ⌝ }
     ensures same { λ _. ⌜ S·Sizing .classes (now (sizes .exit)) ≡ S·Sizing .classes (now (sizes .entry)) ⌝ }
     ensures keeps { λ _. ⌜ S·Sizing .keeps (now (sizes .entry)) (now (sizes .exit)) ⌝ }
 {

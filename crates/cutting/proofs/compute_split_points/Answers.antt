@@ -9,27 +9,28 @@ use Rattle.cutting.proofs.compute_split_points.Needs as need
 pub loop-class-again-then-grow-reach : need.loop-class-again-then-grow-reach
 loop-class-again-then-grow-reach g c =
     let s = c .loop-class .inv in
-    let e = ap (λ (cs : Classes). cs .size (c .loop-class .start) (c .loop-class .class + 1)) (s .2) in
-    (growing-on (s .0) (omega (arith, c .grow .ensures .size)), c .grow .ensures .run, c .grow .ensures .same ∙ s .2, λ t k. g .S·Sizing .joins t _ _ (s .3 t k) (c .grow .ensures .keeps))
+    let e = ap (λ (cs : Classes). cs .size (c .loop-class .start) (c .loop-class .class + 1)) (s .3) in
+    (growing-on (s .0) (omega (arith, c .grow .ensures .size)), c .grow .ensures .ready, c .grow .ensures .run, c .grow .ensures .same ∙ s .3, λ t k. g .S·Sizing .joins t _ _ (s .4 t k) (c .grow .ensures .keeps))
 
 pub loop-class-again : need.loop-class-again
 loop-class-again g c =
     let s = c .loop-class .inv in
     let begun = c .start-in-loop-class .ensures in
-    let same = c .grow .ensures .same ∙ s .2 in
-    let e = ap (λ (cs : Classes). cs .size (c .loop-class .start) (c .loop-class .class + 1)) (s .2) in
+    let same = c .grow .ensures .same ∙ s .3 in
+    let e = ap (λ (cs : Classes). cs .size (c .loop-class .start) (c .loop-class .class + 1)) (s .3) in
     let f = ap (λ (cs : Classes). cs .size (c .loop-class .class) (c .loop-class .class + 1)) same in (
       growing-cut (s .0) (omega (arith, c .grow .ensures .size)) (omega (arith, begun .size)) (omega arith),
+      begun .ready,
       begun .run,
       begun .same ∙ same,
-      λ t k. g .S·Sizing .joins t _ _ (g .S·Sizing .joins t _ _ (s .3 t k) (c .grow .ensures .keeps)) (begun .keeps),
+      λ t k. g .S·Sizing .joins t _ _ (g .S·Sizing .joins t _ _ (s .4 t k) (c .grow .ensures .keeps)) (begun .keeps),
     )
 
 pub returns-then-start-reach-2 : need.returns-then-start-reach-2
 returns-then-start-reach-2 g c =
     let s = c .loop-class .inv in
     let begun = c .start-in-loop-class .ensures in
-    let same = c .grow .ensures .same ∙ s .2 in
+    let same = c .grow .ensures .same ∙ s .3 in
     let f = ap (λ (cs : Classes). cs .size (c .loop-class .class) (c .loop-class .class + 1)) same in
     let n = ap (λ (cs : Classes). cs .count) (c .start .ensures .same) in
     record {
@@ -37,8 +38,9 @@ returns-then-start-reach-2 g c =
         subst (λ (cs : Classes). LowestExceeds (cs .size) (c .args .reach) (cs .count) (c .loop-class .class)) (c .start .ensures .same) (record { within = omega arith; exceeds = omega (arith, begun .size); lowest = each-fits (s .0) }),
         c .clear-split-points .ensures ∙ growing-cleared (s .0) (c .pre .clear) (omega arith),
       );
+      ready = begun .ready;
       same = begun .same ∙ same ∙ c .start .ensures .same;
-      keeps = g .S·Sizing .joins _ _ _ (g .S·Sizing .joins _ _ _ (s .3 _ (c .start .ensures .keeps)) (c .grow .ensures .keeps)) (begun .keeps);
+      keeps = g .S·Sizing .joins _ _ _ (g .S·Sizing .joins _ _ _ (s .4 _ (c .start .ensures .keeps)) (c .grow .ensures .keeps)) (begun .keeps);
     }
 
 pub returns : need.returns
@@ -47,6 +49,7 @@ returns g c =
     let n = ap (λ (cs : Classes). cs .count) (c .start .ensures .same) in
     record {
       points = subst (λ (cs : Classes). Cut cs (c .args .reach) (c .loop-class .count) (c .args .points .now) (c .loop-class .points)) (c .start .ensures .same) (growing-all (s .0) (omega arith) (omega arith));
-      same = s .2 ∙ c .start .ensures .same;
-      keeps = s .3 _ (c .start .ensures .keeps);
+      ready = s .1;
+      same = s .3 ∙ c .start .ensures .same;
+      keeps = s .4 _ (c .start .ensures .keeps);
     }
