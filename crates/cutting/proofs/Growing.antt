@@ -10,6 +10,10 @@ use Rattle.cutting.specs.Cutting.{Greedy, EachFits}
 use Rattle.cutting.specs.SplitPoints.{Classes, Clear, Cut}
 use Rattle.cutting.proofs.Theory.{alone, in-front}
 
+-- the same classes have the same sizes
+pub size-same : {cs ds : Classes} → cs ≡ ds → (a b : ℕ) → cs .size a b ≡ ds .size a b
+size-same e a b = ap (λ (cs : Classes). cs .size a b) e
+
 -- the list new holds the n places of a greedy cutting before the run start .. end, whatever comes after it, and then what the list old holds
 pub record Growing (cs : Classes) (r start end n : ℕ) (old new : List ℕ) : Type 0 where
   pub holds : start < end

@@ -26,14 +26,16 @@ pub trait Sizing {
     // What holds between calls.
     ghost ready: { Self → Type 0 };
 
-    // The run start .. end is the one that is grown.
-    ghost runs: { Self → ℕ → ℕ → Type 0 };
+    // The run that is grown holds the classes start .. end.
+    ghost grown: { Self → ℕ → ℕ → Type 0 };
 
-    // What else a call leaves as it was.
+    // What a call leaves as it was, besides the classes.
     ghost keeps: { Self → Self → Type 0 };
 
+    // What two calls leave as it was.
     ghost joins: { (s t u : Self) → keeps s t → keeps t u → keeps s u };
 
+    // How many classes there are.
     fn class_count(&self) -> u32
         requires { ⌜ ready (now self) ⌝ }
         ensures { λ r. ⌜ r ≡ classes (now (self .entry)) .count ⌝ };
@@ -44,18 +46,18 @@ pub trait Sizing {
         requires within { ⌜ class < classes (now self) .count ⌝ }
         ensures size { λ r. ⌜ r ≡ classes (now (self .entry)) .size class (class + 1) ⌝ }
         ensures ready { λ _. ⌜ ready (now (self .exit)) ⌝ }
-        ensures run { λ _. ⌜ runs (now (self .exit)) class (class + 1) ⌝ }
+        ensures grown { λ _. ⌜ grown (now (self .exit)) class (class + 1) ⌝ }
         ensures same { λ _. ⌜ classes (now (self .exit)) ≡ classes (now (self .entry)) ⌝ }
         ensures keeps { λ _. ⌜ keeps (now (self .entry)) (now (self .exit)) ⌝ };
 
-    // Takes the class after the run start .. class into it, and tells its size.
+    // Takes the class into the run start .. class, which ends before it, and tells its size.
     fn grow(&mut self, start: u32, class: u32) -> usize
         requires ready { ⌜ ready (now self) ⌝ }
         requires within { ⌜ class < classes (now self) .count ⌝ }
-        requires run { ⌜ runs (now self) start class ⌝ }
+        requires grown { ⌜ grown (now self) start class ⌝ }
         ensures size { λ r. ⌜ r ≡ classes (now (self .entry)) .size start (class + 1) ⌝ }
         ensures ready { λ _. ⌜ ready (now (self .exit)) ⌝ }
-        ensures run { λ _. ⌜ runs (now (self .exit)) start (class + 1) ⌝ }
+        ensures grown { λ _. ⌜ grown (now (self .exit)) start (class + 1) ⌝ }
         ensures same { λ _. ⌜ classes (now (self .exit)) ≡ classes (now (self .entry)) ⌝ }
         ensures keeps { λ _. ⌜ keeps (now (self .entry)) (now (self .exit)) ⌝ };
 }

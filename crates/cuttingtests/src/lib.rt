@@ -24,10 +24,10 @@ impl Drop for Shared<'_, '_> {
     {
         self.marks.fill(false);
         let Shared {
+            marks: _,
             base: _,
             things: _,
             sizes: _,
-            marks: _,
             total: _,
         } = self;
     }
@@ -53,7 +53,7 @@ pub impl Sizing for Shared<'_, '_> as SharedSizing {
 
     ghost ready = { Ready };
 
-    ghost runs = { Running };
+    ghost grown = { Running };
 
     ghost keeps = { Lent };
 
@@ -95,10 +95,10 @@ pub fn cut_shared<'a>(
     ensures marks { λ _. ⌜ now (marks .exit) ≡ replicate (length (now (marks .exit))) false ⌝ }
 {
     let mut shared = Shared {
+        marks,
         base,
         things,
         sizes,
-        marks,
         total: 0,
     };
     compute_split_points(&mut shared, reach, points)

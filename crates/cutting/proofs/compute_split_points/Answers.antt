@@ -3,25 +3,25 @@ use Prim.Native.Nat.{_+_}
 use native.Mathlib.Omega.{arith}
 use Rattle.cutting.specs.Cutting.{LowestExceeds}
 use Rattle.cutting.specs.SplitPoints.{Classes, Cut}
-use Rattle.cutting.proofs.Growing.{growing-on, growing-cut, growing-all, growing-cleared, each-fits}
+use Rattle.cutting.proofs.Growing.{size-same, growing-on, growing-cut, growing-all, growing-cleared, each-fits}
 use Rattle.cutting.proofs.compute_split_points.Needs as need
 
 pub loop-class-again-then-grow-reach : need.loop-class-again-then-grow-reach
 loop-class-again-then-grow-reach g c =
     let s = c .loop-class .inv in
-    let e = ap (λ (cs : Classes). cs .size (c .loop-class .start) (c .loop-class .class + 1)) (s .3) in
-    (growing-on (s .0) (omega (arith, c .grow .ensures .size)), c .grow .ensures .ready, c .grow .ensures .run, c .grow .ensures .same ∙ s .3, λ t k. g .S·Sizing .joins t _ _ (s .4 t k) (c .grow .ensures .keeps))
+    let e = size-same (s .3) (c .loop-class .start) (c .loop-class .class + 1) in
+    (growing-on (s .0) (omega (arith, c .grow .ensures .size)), c .grow .ensures .ready, c .grow .ensures .grown, c .grow .ensures .same ∙ s .3, λ t k. g .S·Sizing .joins t _ _ (s .4 t k) (c .grow .ensures .keeps))
 
 pub loop-class-again : need.loop-class-again
 loop-class-again g c =
     let s = c .loop-class .inv in
     let begun = c .start-in-loop-class .ensures in
     let same = c .grow .ensures .same ∙ s .3 in
-    let e = ap (λ (cs : Classes). cs .size (c .loop-class .start) (c .loop-class .class + 1)) (s .3) in
-    let f = ap (λ (cs : Classes). cs .size (c .loop-class .class) (c .loop-class .class + 1)) same in (
+    let e = size-same (s .3) (c .loop-class .start) (c .loop-class .class + 1) in
+    let f = size-same same (c .loop-class .class) (c .loop-class .class + 1) in (
       growing-cut (s .0) (omega (arith, c .grow .ensures .size)) (omega (arith, begun .size)) (omega arith),
       begun .ready,
-      begun .run,
+      begun .grown,
       begun .same ∙ same,
       λ t k. g .S·Sizing .joins t _ _ (g .S·Sizing .joins t _ _ (s .4 t k) (c .grow .ensures .keeps)) (begun .keeps),
     )
@@ -31,7 +31,7 @@ returns-then-start-reach-2 g c =
     let s = c .loop-class .inv in
     let begun = c .start-in-loop-class .ensures in
     let same = c .grow .ensures .same ∙ s .3 in
-    let f = ap (λ (cs : Classes). cs .size (c .loop-class .class) (c .loop-class .class + 1)) same in
+    let f = size-same same (c .loop-class .class) (c .loop-class .class + 1) in
     let n = ap (λ (cs : Classes). cs .count) (c .start .ensures .same) in
     record {
       points = (

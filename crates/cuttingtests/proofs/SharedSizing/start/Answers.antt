@@ -17,4 +17,4 @@ returns c =
     let clear : c .fill .last .self ≡ replicate (length (s .marks .now)) false = search needs in
     let none : Run (s .base) (s .things .now) (s .sizes .now) (c .fill .last .self) (s .base) (c .args .class) (c .args .class) = rw clear (run-none (length (s .marks .now)) (c .args .class)) in
     let run = run-more none (omega (arith, c .fill .ensures .len, c .pre .ready .marks)) (took .size) (took .small) (took .marks) in
-    record { size = run .sum; ready = record { marks = omega (arith, c .taken .kept .marks, c .fill .ensures .len, c .pre .ready .marks); few = c .pre .ready .few }; run = run; same = refl; keeps = refl }
+    record { size = run .sum; ready = record { marks = omega (arith, c .taken .kept .marks, c .fill .ensures .len, c .pre .ready .marks); few = c .pre .ready .few }; grown = run; same = refl; keeps = refl }
