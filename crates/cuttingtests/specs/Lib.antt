@@ -1,2 +1,3 @@
 pub mod Shared
 pub mod Sizes
+pub mod Worked

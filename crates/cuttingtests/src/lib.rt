@@ -5,6 +5,7 @@ ghost use mathlib.Core.Bool.{true, false, cond};
 ghost use mathlib.Core.Path.{_≡_};
 ghost use Rattle.cutting.specs.SplitPoints.{Clear, SplitPoints};
 ghost use Rattle.cuttingtests.specs.Shared.{classes, classesOf, Ready, Running, Lent, lent-on};
+ghost use Rattle.cuttingtests.specs.Worked.{Worked};
 use cutting::Sizing;
 use cutting::compute_split_points;
 
@@ -103,6 +104,11 @@ pub fn cut_shared<'a>(
     };
     compute_split_points(&mut shared, reach, points)
 }
+
+// Some cuttings, computed.
+pub fn worked_cuts()
+    ensures { λ _. ⌜ Worked ⌝ }
+{}
 
 #[cfg(test)]
 mod tests {
