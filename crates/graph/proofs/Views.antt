@@ -1,19 +1,22 @@
 -- What the view says of the tables.
-use mathlib.Core.List.{List, map}
+use mathlib.Core.List.{List, [], _∷_, _++_, map}
 use mathlib.Core.Path.{_≡_, refl, sym, ap, _∙_, subst}
-use Prim.Native.Nat.{ℕ, _+_, _<_, _≤_}
+use Prim.Native.Nat.{ℕ, zero, suc, _+_, _<_, _≤_}
 use native.Mathlib.Omega.{arith}
-use lib.ListN.{length, drop}
+use native.Mathlib.Numerals.{add-one}
+use lib.ListN.{length, take, drop}
+use lib.Seq.{take-add}
+use Rattle.std.specs.Joined.{joined}
 use Rattle.std.specs.Of.Vec.{vec-items, vec-len}
 use Rattle.std.specs.shelf.Lists.{sum}
-use Rattle.std.proofs.shelf.Lists.{length-map, length-take-le, length-drop, getD-map}
+use Rattle.std.proofs.shelf.Lists.{length-map, length-take-le, length-drop, getD-map, map-more, joined-more, take-all}
 use Rattle.std.proofs.shelf.Sums.{sumBy-more, sumBy-take-le}
 use Rattle.graph.specs.declared.vertex.Vertex.{Vertex}
 use Rattle.graph.specs.declared.vertex.Capacity.{Capacity}
 use Rattle.serialize.specs.declared.link.Link.{Link}
 use Rattle.graph.specs.declared.tables.Graph.{Graph}
-use Rattle.serialize.specs.Objects.{Node, noNode, nodeAt, part, Ascends, LinksFit, SoundObjects, bytesAt, linksAt}
-use Rattle.graph.specs.Sound.{vertexAt, noVertex, segment, counts, linkTotal, Below, Apart, Placed, Ordered, Inside, Blank}
+use Rattle.serialize.specs.Objects.{Node, noNode, nodeAt, part, Ascends, LinksFit, SoundObjects, bytesAt, linksAt, allLinks}
+use Rattle.graph.specs.Sound.{vertexAt, noVertex, segment, counts, linksBefore, linkTotal, Below, Apart, Placed, Ordered, Inside, Blank}
 use Rattle.graph.specs.Model.{node, view}
 
 pub length-part : {X : Type 0} (from n : ℕ) (xs : List X) → from + n ≤ length xs → length (part from n xs) ≡ n
@@ -120,3 +123,36 @@ sound-objects g v h =
           let a = g .inside v i (small, k) in
           (omega (arith, a .0, long), omega (arith, a .1, bytes-long g v lt, ap (λ (x : Node). length (x .bytes)) (node-is g v lt)), g .blank v i (small, k))),
     )
+
+-- the first segments are the front of the link table
+module _ (rs : List Vertex) (ls : List Link) (bs : List ℕ) (placed : Placed rs) (covered : linkTotal rs ≡ length ls) where
+  front-joined : (v : ℕ) → v ≤ length rs → joined (λ (x : Node). x .links) (map (node bs ls) (take v rs)) ≡ take (linksBefore rs v) ls
+  front-joined zero h = refl
+  front-joined (suc v) h =
+      let f : Vertex → Node = node bs ls in
+      let g : Node → List Link = λ x. x .links in
+      let r = vertexAt rs v in
+      let n = length-map rs (λ (r : Vertex). r .«link_count») in
+      let at = getD-map (λ (r : Vertex). r .«link_count») rs v noVertex 0 h in
+      let sum-more : linksBefore rs (v + 1) ≡ linksBefore rs v + r .«link_count» = sumBy-more (λ x. x) (counts rs) v 0 (omega (arith, n)) ∙ ap (λ (k : ℕ). linksBefore rs v + k) at in
+      let e = add-one v in
+      let rows : map f (take (v + 1) rs) ≡ map f (take v rs) ++ f r ∷ [] = map-more f rs v noVertex h in
+      let seg : segment ls r ≡ part (linksBefore rs v) (r .«link_count») ls = ap (λ (k : ℕ). part k (r .«link_count») ls) (placed v h) in
+      let is : joined g (map f (take (v + 1) rs)) ≡ take (linksBefore rs (v + 1)) ls =
+      ap (joined g) rows
+      ∙ (sym (joined-more g [] (map f (take v rs)) (f r))
+      ∙ (ap (λ (xs : List Link). xs ++ segment ls r) (front-joined v (omega arith))
+      ∙ (ap (λ (xs : List Link). take (linksBefore rs v) ls ++ xs) seg ∙ (sym (take-add (linksBefore rs v) (r .«link_count») ls) ∙ ap (λ (k : ℕ). take k ls) (sym sum-more))))) in
+      subst (λ (k : ℕ). joined g (map f (take k rs)) ≡ take (linksBefore rs k) ls) e is
+
+pub all-joined : (g : Graph) → allLinks (view g .nodes) ≡ vec-items (g .links)
+unfolding view
+all-joined g =
+    let rs = vec-items (g .vertices) in
+    let ls = vec-items (g .links) in
+    let all = linkTotal rs in
+    let n : all ≡ length ls = g .covered ∙ g .links .ok .0 in
+    let m = length-map rs (λ (r : Vertex). r .«link_count») in
+    ap (λ (zs : List Vertex). joined (λ (x : Node). x .links) (map (node (vec-items (g .bytes)) ls) zs)) (sym (take-all (length rs) rs (omega arith)))
+    ∙ (front-joined rs ls (vec-items (g .bytes)) (g .placed) n (length rs) (omega arith)
+    ∙ (ap (λ (k : ℕ). take k ls) (ap sum (take-all (length rs) (counts rs) (omega (arith, m)))) ∙ take-all all ls (omega arith)))

@@ -5,6 +5,8 @@ use mathlib.Core.Path.{_≡_}
 use Prim.Native.Nat.{ℕ, _+_, _*_, _<_, _≤_}
 use lib.Dec.{eqb}
 use lib.ListN.{length, getD, take, drop}
+use Rattle.std.specs.Joined.{joined}
+use Rattle.std.specs.shelf.Lists.{countBy}
 use Rattle.std.specs.declared.option.Option.{Option}
 use Rattle.std.specs.declared.option.Option.the-variants.{Some, None}
 use Rattle.serialize.specs.declared.link.Link.{Link}
@@ -28,6 +30,13 @@ bytesAt nodes v = nodeAt nodes v .bytes
 
 abbrev pub linksAt : List Node → ℕ → List Link
 linksAt nodes v = nodeAt nodes v .links
+
+-- the links of all vertices, in their order, and how many of them lead to a vertex
+abbrev pub allLinks : List Node → List Link
+allLinks nodes = joined (λ (x : Node). x .links) nodes
+
+abbrev pub incoming : List Node → ℕ → ℕ
+incoming nodes v = countBy (λ (l : Link). eqb (l .child) v) (allLinks nodes)
 
 -- n elements from a place on
 abbrev pub part : {X : Type 0} → ℕ → ℕ → List X → List X

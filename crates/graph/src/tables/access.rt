@@ -3,7 +3,7 @@ ghost use mathlib.Core.Path.{_≡_};
 ghost use Prim.Native.Nat.{ℕ, _+_, _<_, _≤_};
 ghost use lib.ListN.{length};
 ghost use Rattle.std.specs.Of.Vec.{vec-items, vec-len};
-ghost use Rattle.serialize.specs.Objects.{bytesAt, linksAt, wordAt, linkIn, Ascends};
+ghost use Rattle.serialize.specs.Objects.{bytesAt, linksAt, allLinks, wordAt, linkIn, Ascends};
 ghost use Rattle.graph.specs.Sound.{vertexAt};
 ghost use Rattle.graph.specs.Model.{view};
 use super::Graph;
@@ -102,6 +102,13 @@ impl Graph {
         let from = r.first_link;
         let to = from + r.link_count;
         &self.links.as_slice()[from..to]
+    }
+
+    // The links of all vertices, in the order of the vertices.
+    pub fn all_links(&self) -> &[Link]
+        ensures { λ r. ⌜ now r ≡ allLinks (view (now (self .entry)) .nodes) ⌝ }
+    {
+        self.links.as_slice()
     }
 
     // The link whose field begins at a position of a vertex.
