@@ -7,6 +7,7 @@ use crate::vertex::Vertex;
 use serialize::link::Link;
 
 mod access;
+mod incoming;
 mod load;
 mod make;
 

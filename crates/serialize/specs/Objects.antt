@@ -31,12 +31,16 @@ bytesAt nodes v = nodeAt nodes v .bytes
 abbrev pub linksAt : List Node → ℕ → List Link
 linksAt nodes v = nodeAt nodes v .links
 
--- the links of all vertices, in their order, and how many of them lead to a vertex
+-- the links of all vertices, in their order
 abbrev pub allLinks : List Node → List Link
 allLinks nodes = joined (λ (x : Node). x .links) nodes
 
+-- how many links lead to a vertex, of a list and of all
+abbrev pub leadingTo : List Link → ℕ → ℕ
+leadingTo links v = countBy (λ (l : Link). eqb (l .child) v) links
+
 abbrev pub incoming : List Node → ℕ → ℕ
-incoming nodes v = countBy (λ (l : Link). eqb (l .child) v) (allLinks nodes)
+incoming nodes v = leadingTo (allLinks nodes) v
 
 -- n elements from a place on
 abbrev pub part : {X : Type 0} → ℕ → ℕ → List X → List X

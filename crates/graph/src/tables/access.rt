@@ -106,7 +106,8 @@ impl Graph {
 
     // The links of all vertices, in the order of the vertices.
     pub fn all_links(&self) -> &[Link]
-        ensures { λ r. ⌜ now r ≡ allLinks (view (now (self .entry)) .nodes) ⌝ }
+        ensures value { λ r. ⌜ now r ≡ allLinks (view (now (self .entry)) .nodes) ⌝ }
+        ensures bound { λ r. ⌜ length (now r) ≤ 100000 ⌝ }
     {
         self.links.as_slice()
     }
