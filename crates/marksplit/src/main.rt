@@ -6,6 +6,7 @@ use session::load_file;
 use session::new_workspace;
 use std::error::AnyError;
 use std::fs;
+use std::io;
 use std::io::BufRead;
 use std::io::BufReader;
 use std::io::Read;
@@ -13,7 +14,7 @@ use std::io::Write;
 use workspace::state::Workspace;
 
 // The file's bytes; of one that is longer than any that fits, one byte too many is enough.
-fn read_file(rt: &LibcRuntime) -> Result<Vec<u8>, AnyError> {
+fn read_file(rt: &LibcRuntime) -> io::Result<Vec<u8>> {
     let mut file = Vec::new(rt.alloc());
     let mut source = fs::open(rt, "objects.bin")?.take(LONGEST_FILE as u64 + 1);
     source.read_to_end(&mut file)?;
@@ -30,7 +31,12 @@ fn answer_lines(rt: &LibcRuntime, workspace: &mut Workspace) -> Result<(), AnyEr
 }
 
 fn run(rt: &LibcRuntime) -> Result<(), AnyError> {
-    let file = read_file(rt)?;
+    let file = match read_file(rt) {
+        Ok(file) => file,
+        Err(error) => {
+            return Err(format!(rt.alloc(), "cannot read objects.bin: {error}")?.into());
+        }
+    };
     let mut workspace = new_workspace(rt.alloc())?;
     match load_file(&mut workspace, file.as_slice()) {
         Ok(_) => answer_lines(rt, &mut workspace),
@@ -43,5 +49,9 @@ fn run(rt: &LibcRuntime) -> Result<(), AnyError> {
 }
 
 fn main(rt: LibcRuntime) -> Result<(), AnyError> {
-    rt.report(run(&rt))
+    let result = run(&rt);
+    if let Err(error) = &result {
+        eprintln!(rt, "marksplit: {error}")?;
+    }
+    result
 }
