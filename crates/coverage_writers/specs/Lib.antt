@@ -1,0 +1,3 @@
+pub mod Formats
+pub mod Laws
+pub mod Writing
