@@ -28,7 +28,7 @@ const FORMAT_1: [(&str, &[u8]); 15] = [
 ];
 
 /// Tables of format 2, and broken ones.
-const FORMAT_2: [(&str, &[u8]); 18] = [
+const FORMAT_2: [(&str, &[u8]); 19] = [
     ("no count", &[0, 2]),
     ("no ranges", &[0, 2, 0, 0]),
     ("start missing", &[0, 2, 0, 1]),
@@ -56,6 +56,7 @@ const FORMAT_2: [(&str, &[u8]); 18] = [
         "range to 65535",
         &[0, 2, 0, 2, 0, 5, 0, 6, 0, 0, 255, 254, 255, 255, 0, 2],
     ),
+    ("two glyphs", &[0, 2, 0, 1, 0, 7, 0, 8, 0, 0]),
     ("65535 alone", &[0, 2, 0, 1, 255, 255, 255, 255, 0, 0]),
     ("all glyphs", &[0, 2, 0, 1, 0, 0, 255, 255, 0, 0]),
     (
