@@ -1,0 +1,3 @@
+pub mod Reach
+pub mod Computed
+pub mod Sizes

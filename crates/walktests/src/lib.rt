@@ -1,0 +1,4 @@
+// Walks over graphs that were loaded.
+pub mod files;
+#[cfg(test)]
+mod tests;
