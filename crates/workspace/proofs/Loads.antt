@@ -1,5 +1,6 @@
 -- Why a file is refused, or not.
 use mathlib.Core.List.{List}
+use mathlib.Core.Bool.{true}
 use mathlib.Core.Path.{_≡_, refl, sym, ap, _∙_}
 use Prim.Native.Nat.{ℕ}
 use native.Mathlib.Omega.{arith}
@@ -22,6 +23,10 @@ accepted m file t e f g = cc
 -- where nothing is short, the file passes no capacity
 pub enough : (m : Model) (t : Trailer) → shortage m t ≡ None → Room (m .graph .capacity) t
 enough m t e = (grind (arith, tells), grind (arith, tells), grind (arith, tells))
+
+-- and the lists are long enough
+pub serves : (m : Model) (t : Trailer) → shortage m t ≡ None → m .lists ≡ true
+serves m t e = grind (arith, tells)
 
 -- a workspace after the objects of a file were put into its graph
 pub view-loaded : (w w′ : Workspace) (file : List ℕ) (t : Trailer) → objects (w′ .graph) ≡ withFile (objects (w .graph)) file t → w′ .«first_list» ≡ w .«first_list» → w′ .«second_list» ≡ w .«second_list» → w′ .visited ≡ w .visited

@@ -7,7 +7,8 @@ use Rattle.serialize.specs.Objects.{SoundObjects}
 use Rattle.graph.specs.Model.{Model as Objects, view as objects}
 use Rattle.graph.proofs.Views.{sound-objects}
 use Rattle.workspace.specs.declared.state.Workspace.{Workspace}
-use Rattle.workspace.specs.Model.{longEnough, view}
+use Rattle.workspace.specs.Model.{view}
+use Rattle.workspace.specs.Rest.{longEnough}
 
 pub graph-is : (w : Workspace) → view w .graph ≡ objects (w .graph)
 unfolding view

@@ -2,4 +2,5 @@ pub mod Rest
 pub mod Supply
 pub mod Model
 pub mod Loading
+pub mod Opening
 pub mod Reading

@@ -1,16 +1,14 @@
 -- What a workspace stands for.
-use mathlib.Core.Bool.{Bool, _&&_}
+use mathlib.Core.Bool.{Bool}
 use Prim.Native.Nat.{ℕ, _-_}
-use lib.Dec.{leb}
 use lib.ListN.{length}
 use Rattle.std.specs.Of.Vec.{vec-items, vec-len}
 use Rattle.std.specs.declared.option.Option.{Option}
 use Rattle.std.specs.declared.option.Option.the-variants.{None}
 use Rattle.graph.specs.Model.{Model as Objects, view as objects, noObjects, capacityOf}
-use Rattle.graph.specs.declared.vertex.Capacity.{Capacity}
 use Rattle.workspace.specs.declared.state.Workspace.{Workspace}
 use Rattle.workspace.specs.declared.supply.Supply.{Supply}
-use Rattle.workspace.specs.Rest.{Zero, Clear}
+use Rattle.workspace.specs.Rest.{longEnough, Zero, Clear}
 
 -- the objects, whether the working lists and the visit marks are long enough, how many vertices were loaded, and the lookup that is open
 pub record Model : Type 0 where
@@ -18,10 +16,6 @@ pub record Model : Type 0 where
   pub lists : Bool
   pub loaded : ℕ
   pub lookup : Option ℕ
-
--- two lists of 65,535 entries and a visit mark for each vertex that the table can hold
-abbrev pub longEnough : Capacity → ℕ → ℕ → ℕ → Bool
-longEnough c first second visited = leb 65535 first && (leb 65535 second && leb (c .vertices) visited)
 
 -- what a workspace stands for
 unfoldable pub view : Workspace → Model

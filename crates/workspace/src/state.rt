@@ -1,9 +1,9 @@
 // The state of a workspace.
 ghost use Prim.Native.Nat.{_≤_};
 ghost use lib.ListN.{length};
-ghost use Rattle.std.specs.Of.Vec.{vec-items};
+ghost use Rattle.std.specs.Of.Vec.{vec-items, vec-len};
 ghost use Rattle.graph.specs.Model.{view as objects};
-ghost use Rattle.workspace.specs.Rest.{Zero, Clear};
+ghost use Rattle.workspace.specs.Rest.{Zero, Clear, Served};
 use graph::tables::Graph;
 
 mod calls;
@@ -23,6 +23,8 @@ pub struct Workspace {
     ghost first: { Zero (vec-items «first_list») },
     ghost second: { Zero (vec-items «second_list») },
     ghost clear: { Clear (vec-items visited) },
+    // Where there are vertices, the lists and the visit marks are long enough.
+    ghost served: { Served (objects graph) (vec-len «first_list») (vec-len «second_list») (vec-len visited) },
     // No call takes a vertex away.
     ghost kept: { loaded ≤ length (objects graph .nodes) },
 }
