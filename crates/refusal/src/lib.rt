@@ -44,13 +44,13 @@ pub enum Refusal {
     NoLookup,
     // `open`: the lookup is broken at this byte.
     BrokenLookup {
-        place: u32,
+        place: usize,
     },
     // `open`: a part of a subtable is broken at this byte.
     BrokenPart {
         subtable: u32,
         part: Part,
-        place: u32,
+        place: usize,
     },
     // `open`: the lowest part of a subtable, the base coverage aside, that has more than one incoming link.
     SharedPart {
@@ -164,9 +164,9 @@ pub impl fmt::Display for Refusal as RefusalDisplay {
             }
             Refusal::BadLink { record: value }
             | Refusal::LookupOpen { lookup: value }
-            | Refusal::BrokenLookup { place: value }
             | Refusal::NoSubtable { count: value }
             | Refusal::BadReach { reach: value } => write!(f, "{number} {value}"),
+            Refusal::BrokenLookup { place } => write!(f, "{number} {place}"),
             Refusal::BrokenPart {
                 subtable,
                 part,

@@ -1,0 +1,4 @@
+mod Apart
+pub mod Steps
+pub mod Seeks
+mod Means

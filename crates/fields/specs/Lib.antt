@@ -1,0 +1,4 @@
+pub mod Fields
+pub mod Arrays
+pub mod Cursors
+pub mod Laws

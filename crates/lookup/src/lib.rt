@@ -1,0 +1,5 @@
+// Lookups: reading one with all its subtables, and the hits of a mark and a base.
+mod head;
+
+pub use head::LookupHead;
+pub use head::read_lookup;

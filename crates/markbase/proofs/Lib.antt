@@ -1,0 +1,4 @@
+pub mod Repeats
+mod Records
+mod Contents
+mod Finds
