@@ -1,5 +1,6 @@
 // Lookups: reading one with all its subtables, and the hits of a mark and a base.
 mod head;
+mod judge;
 
 pub use head::LookupHead;
 pub use head::read_lookup;
