@@ -26,7 +26,7 @@ times-length r (suc n) s as′ t e =
 abbrev pub tailOf : ℕ → ℕ → ℕ → Rest → Result LookupHead ℕ
 tailOf kind flag count s = ended (then (times (filterWords flag) word s) (λ filter. give record { kind = kindOf kind; flag = flag; count = count }))
 
-abbrev rest-of : ℕ → ℕ → List ℕ → Reader Lookup
+abbrev pub rest-of : ℕ → ℕ → List ℕ → Reader Lookup
 rest-of kind flag children = times (filterWords flag) word ⟫ λ filter. give record { kind = kindOf kind; flag = flag; subtables = children }
 
 head-cond : (b : Bool) (l : Lookup) (p : ℕ) → headOf (cond b (Ok l) (Err p)) ≡ cond b (Ok record { kind = l .kind; flag = l .flag; count = length (l .subtables) }) (Err p)
