@@ -1,4 +1,4 @@
 pub mod Repeats
-mod Records
+pub mod Records
 mod Contents
 mod Finds

@@ -25,7 +25,7 @@ from-zero : (ls : List Link) → from 0 ls ≡ ls
 from-zero [] = refl
 from-zero (l ∷ ls) = ap (λ b. cond b (l ∷ ls) (from 0 ls)) (le-leb 0 (l .position) (omega arith))
 
-start-seek : (bs : List ℕ) (ls : List Link) → start bs ls ≡ seek 0 bs ls
+pub start-seek : (bs : List ℕ) (ls : List Link) → start bs ls ≡ seek 0 bs ls
 start-seek bs ls = let e = from-zero ls in λ i. record { place = 0; bytes = bs; links = sym e i }
 
 pub fault-none : {A : Type 0} (x : Result (List A) ℕ) → faultOf x ≡ None → x ≡ Ok (listOf x)

@@ -1,5 +1,6 @@
 pub mod Nodes
 pub mod Tables
+pub mod LookupTypes
 pub mod Faults
 pub mod Views
 pub mod Values

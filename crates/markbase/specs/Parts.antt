@@ -12,8 +12,8 @@ use Rattle.fields.specs.Arrays.{markArray, baseArray}
 use Rattle.markbase.specs.declared.table.MarkBasePosFormat1.{MarkBasePosFormat1}
 use Rattle.markbase.specs.declared.fault.PartFault.{PartFault}
 use Rattle.markbase.specs.declared.parts.TableInfo.{TableInfo}
-use Rattle.markbase.specs.declared.parts.LookupType.{LookupType}
-use Rattle.markbase.specs.declared.parts.LookupType.the-variants.{MarkToBase, Extension}
+use Rattle.markbase.specs.declared.lookup_type.LookupType.{LookupType}
+use Rattle.markbase.specs.declared.lookup_type.LookupType.the-variants.{MarkToBase, Extension}
 use Rattle.markbase.specs.Nodes.{read}
 use Rattle.markbase.specs.Tables.{subtable, extension, coverage}
 use Rattle.markbase.specs.Faults.{inPart, _⟩_}

@@ -9,18 +9,12 @@ use crate::data::DataBytes;
 use crate::extension::ExtensionSubtable;
 use crate::fault::PartFault;
 use crate::fault::in_part;
+use crate::lookup_type::LookupType;
 use crate::mark_array::MarkArray;
 use crate::table::MarkBasePosFormat1;
 use crate::table::MarkBasePosFormat1Debug;
 use graph::tables::Graph;
 use refusal::Part;
-
-/// What the offsets of a lookup lead to.
-#[derive(Clone, Copy, Debug)]
-pub enum LookupType {
-    MarkToBase = 4,
-    Extension = 9,
-}
 
 /// Where the parts of a subtable stand, and how many marks and bases it has.
 #[derive(Clone, Copy, Debug)]

@@ -1,3 +1,0 @@
-pub mod Lookups
-pub mod Judging
-pub mod Offsets

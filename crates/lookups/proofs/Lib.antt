@@ -1,0 +1,5 @@
+mod Heads
+mod Offsets
+mod Walks
+mod Known
+mod Judged
