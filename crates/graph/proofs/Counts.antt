@@ -1,8 +1,9 @@
 -- Counts of the links that lead to a vertex.
 use mathlib.Core.List.{List, [], _∷_, _++_}
+use mathlib.Core.Bool.{Bool, cond}
 use mathlib.Core.Path.{_≡_, refl, sym, ap, _∙_, subst}
 use mathlib.Core.Logic.{_⊎_, inl, inr}
-use Prim.Native.Nat.{ℕ, _+_, _<_, _≤_}
+use Prim.Native.Nat.{ℕ, suc, _+_, _<_, _≤_}
 use native.Mathlib.Omega.{arith}
 use lib.Dec.{eqb}
 use lib.ListN.{length, getD, set, take}
@@ -10,7 +11,7 @@ use Rattle.std.specs.Joined.{joined}
 use Rattle.std.specs.shelf.Lists.{All}
 use Rattle.std.proofs.shelf.Lists.{length-set, length-take-le, getD-set-same, getD-set-other}
 use Rattle.std.proofs.shelf.Elements.{all-append, all-getD, all-from-getD}
-use Rattle.std.proofs.shelf.Sums.{countBy-more-yes, countBy-more-no, countBy-le-length}
+use Rattle.std.proofs.shelf.Sums.{sumBy-cons, countBy-more-yes, countBy-more-no, countBy-le-length}
 use Rattle.std.proofs.shelf.Tests.{cases-eq, eq-eqb, ne-eqb}
 use Rattle.serialize.specs.declared.link.Link.{Link}
 use Rattle.serialize.specs.Objects.{Node, noNode, noLink, linkAt, leadingTo, allLinks, SoundObjects}
@@ -49,3 +50,11 @@ count-more ls counts i h are in′ v lt =
 
 pub count-small : (ls : List Link) (i v : ℕ) → i ≤ length ls → leadingTo (take i ls) v ≤ i
 count-small ls i v h = omega (arith, countBy-le-length (λ (l : Link). eqb (l .child) v) (take i ls), length-take-le i ls h)
+
+-- no link leads past the vertices
+pub none-lead : (ls : List Link) (n v : ℕ) → ((i : ℕ) → i < length ls → linkAt ls i .child < n) → n ≤ v → leadingTo ls v ≡ 0
+none-lead [] n v in′ h = refl
+none-lead (l ∷ ls) n v in′ h =
+    let p : Link → ℕ = λ (x : Link). cond (eqb (x .child) v) 1 0 in
+    let not = ne-eqb (l .child) v (λ e. omega (arith, in′ 0 (omega arith))) in
+    sumBy-cons p l ls ∙ (ap (λ (b : Bool). cond b 1 0 + leadingTo ls v) not ∙ (ap (λ (k : ℕ). 0 + k) (none-lead ls n v (λ i k. in′ (suc i) (omega arith)) h)))

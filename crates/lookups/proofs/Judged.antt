@@ -1,6 +1,6 @@
 -- What is wrong with a subtable, from what was read and counted.
-use mathlib.Core.Bool.{cond}
-use mathlib.Core.List.{List}
+use mathlib.Core.Bool.{cond, true}
+use mathlib.Core.List.{List, [], _∷_}
 use mathlib.Core.Path.{_≡_, refl, sym, ap, _∙_}
 use Prim.Native.Nat.{ℕ, _+_, _<_}
 use native.Mathlib.Omega.{arith}
@@ -8,6 +8,7 @@ use lib.Dec.{ltb}
 use lib.ListN.{length, getD, drop}
 use Rattle.std.proofs.shelf.Lists.{at-drop-more}
 use Rattle.std.specs.Options.{mapped}
+use Rattle.std.specs.Results.{isOk}
 use Rattle.std.specs.declared.option.Option.{Option}
 use Rattle.std.specs.declared.option.Option.the-variants.{Some, None}
 use Rattle.std.specs.declared.result.Result.{Result}
@@ -26,7 +27,11 @@ use Rattle.markbase.specs.Nodes.{nodeOf, read}
 use Rattle.lookups.specs.declared.lookup.Lookup.{Lookup}
 use Rattle.lookups.specs.Tables.{Fields, lookup, headOf}
 use Rattle.lookups.specs.Views.{offsetsIn, offsetsOf, LookupStands}
-use Rattle.lookups.proofs.Offsets.{head-found, offsets-count}
+use Rattle.lookups.proofs.Offsets.{head-found, offsets-count, valued-ok}
+use Rattle.markbase.specs.Values.{Subtable}
+use Rattle.lookups.specs.declared.fault.LookupFault.{LookupFault}
+use Rattle.lookups.specs.Faults.{placed}
+use Rattle.lookups.specs.Values.{also, subtablesFrom, lookupFrom}
 
 -- equal counts give equal answers
 module _ (f g : ℕ → ℕ) (same : (v : ℕ) → f v ≡ g v) where
@@ -76,3 +81,25 @@ module _ (nodes : List Node) (l : Lookup) (x : Node) (is : nodeOf (l .vertex) �
   pub count-view : length (offsetsIn (read lookup x)) ≡ l .head .count
   unfolding offsetsOf
   count-view = ap (λ (y : Node). length (offsetsIn (read lookup y))) (sym is) ∙ offsets-count l s
+
+-- where nothing is wrong with a subtable and with those behind it, they can be read
+one-more : (nodes : List Node) (i : ℕ) (s : Result Subtable PartFault) (later : Result (List Subtable) LookupFault) (o : Option Refusal)
+    → orElse (wrongWith nodes i (infoOf s)) o ≡ None → (o ≡ None → isOk later ≡ true) → isOk (also (placed i s) later) ≡ true
+one-more nodes i (Err f) later o e k = let z : _≡_ {A = ℕ} 0 1 = cc in absurd (omega arith)
+one-more nodes i (Ok t) later o e k = by (mapped (SharedPart i) (sharedPart (incoming nodes) (info t))) later e k
+  where
+    info : Subtable → TableInfo
+    info t = record { extension = t .extension; vertex = t .vertex; table = t .table; «mark_count» = length (t .contents .marks); «base_count» = length (t .contents .bases) }
+
+    by : (w : Option Refusal) (later : Result (List Subtable) LookupFault) → orElse w o ≡ None → (o ≡ None → isOk later ≡ true) → isOk (also (Ok t) later) ≡ true
+    by (Some x) later e k = let z : _≡_ {A = ℕ} 0 1 = cc in absurd (omega arith)
+    by None (Ok ts) e k = refl
+    by None (Err f) e k = k e
+
+all-read : (nodes : List Node) (kind : LookupType) (i : ℕ) (vs : List ℕ) → wrongAmong nodes kind i vs ≡ None → isOk (subtablesFrom nodes kind i vs) ≡ true
+all-read nodes kind i [] e = refl
+all-read nodes kind i (v ∷ vs) e = one-more nodes i (subtableOf nodes kind v) (subtablesFrom nodes kind (i + 1) vs) (wrongAmong nodes kind (i + 1) vs) e (all-read nodes kind (i + 1) vs)
+
+pub nothing-wrong : (nodes : List Node) (x : Result Fields ℕ) → wrongLookup nodes x ≡ None → isOk (lookupFrom nodes x) ≡ true
+nothing-wrong nodes (Ok l) e = valued-ok l (subtablesFrom nodes (l .kind) 0 (l .offsets)) ∙ all-read nodes (l .kind) 0 (l .offsets) e
+nothing-wrong nodes (Err p) e = let z : _≡_ {A = ℕ} 0 1 = cc in absurd (omega arith)

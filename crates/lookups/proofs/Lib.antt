@@ -2,4 +2,4 @@ mod Heads
 mod Offsets
 mod Walks
 mod Known
-mod Judged
+pub mod Judged

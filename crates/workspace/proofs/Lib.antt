@@ -1,2 +1,4 @@
 pub mod Views
 pub mod Loads
+pub mod Opens
+pub mod Kept

@@ -3,4 +3,6 @@ pub mod Supply
 pub mod Model
 pub mod Loading
 pub mod Opening
+pub mod Attaching
+pub mod Histories
 pub mod Reading

@@ -1,10 +1,19 @@
--- Working lists and visit marks: how long they are, and at rest.
+-- What holds between calls: of the working lists, of the visit marks, of the open lookup.
 use mathlib.Core.List.{List}
-use mathlib.Core.Bool.{Bool, true, false, _&&_}
+use mathlib.Core.Bool.{Bool, true, false, cond, not, _&&_}
 use mathlib.Core.Path.{_≡_}
 use Prim.Native.Nat.{ℕ, _<_}
-use lib.Dec.{leb}
+use lib.Dec.{leb, ltb, eqb}
 use lib.ListN.{length, replicate}
+use Rattle.std.specs.Options.{isSome}
+use Rattle.std.specs.declared.option.Option.{Option}
+use Rattle.std.specs.declared.option.Option.the-variants.{Some, None}
+use Rattle.refusal.specs.declared.Refusal.{Refusal}
+use Rattle.refusal.specs.declared.Refusal.the-variants.{NoLookup}
+use Rattle.serialize.specs.Objects.{Node, nodeAt, incoming}
+use Rattle.markbase.specs.Nodes.{read}
+use Rattle.lookups.specs.Tables.{lookup}
+use Rattle.lookups.specs.Judging.{wrongLookup}
 use Rattle.graph.specs.declared.vertex.Capacity.{Capacity}
 use Rattle.graph.specs.Model.{Model as Objects}
 
@@ -15,6 +24,15 @@ longEnough c first second visited = leb 65535 first && (leb 65535 second && leb 
 -- no file is loaded where they are not
 abbrev pub Served : Objects → ℕ → ℕ → ℕ → Type 0
 Served g first second visited = 0 < length (g .nodes) → longEnough (g .capacity) first second visited ≡ true
+
+-- what is wrong with a vertex as a lookup: there is none, or it has incoming links, or it is broken, or parts of it are broken or shared
+unfoldable pub wrongAt : List Node → ℕ → Option Refusal
+wrongAt nodes v = cond (ltb v (length nodes) && eqb (incoming nodes v) 0) (wrongLookup nodes (read lookup (nodeAt nodes v))) (Some NoLookup)
+
+-- whether nothing is wrong with the lookup that is open
+abbrev pub openable : List Node → Option ℕ → Bool
+openable nodes None = true
+openable nodes (Some v) = not (isSome (wrongAt nodes v))
 
 -- every entry is zero
 abbrev pub Zero : List ℕ → Type 0

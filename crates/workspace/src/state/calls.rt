@@ -2,7 +2,6 @@
 ghost use mathlib.Core.Path.{_≡_};
 ghost use Rattle.serialize.specs.Objects.{SoundObjects};
 ghost use Rattle.workspace.specs.Model.{view, newModel, AtRest, madeOf};
-ghost use Rattle.workspace.specs.Opening.{Closes};
 ghost use Rattle.workspace.specs.Loading.{shortage, Loads};
 use super::Workspace;
 use crate::supply::LIST_LEN;
@@ -64,17 +63,6 @@ impl Workspace {
         self.loaded = trailer.vertices;
         self.lookup = None;
         Ok(trailer.vertices)
-    }
-
-    // Ends the open lookup; vertices and links stay.
-    pub fn close(&mut self) -> Result<u32, Refusal>
-        ensures { λ r. ⌜ Closes (view (now (self .entry))) r (view (now (self .exit))) ⌝ }
-    {
-        if self.lookup.is_none() {
-            return Err(Refusal::NothingOpen);
-        }
-        self.lookup = None;
-        Ok(0)
     }
 
     // What is too small for a file with this trailer.

@@ -31,7 +31,7 @@ ghost-self c =
     let lists : longEnough (objects (c .fill .last .self) .capacity) (vec-len (w .«first_list»)) (vec-len (w .«second_list»)) (vec-len (w .visited)) ≡ true =
     ap (λ (g : Objects). longEnough (g .capacity) (vec-len (w .«first_list»)) (vec-len (w .«second_list»)) (vec-len (w .visited))) (c .fill .ensures)
     ∙ (sym (lists-are w) ∙ serves (view w) t (sym (c .in-rest-shortage .ensures tt))) in
-    (w .first, (w .second, (w .clear, ((λ _. lists), (omega (arith, n), tt)))))
+    (w .first, (w .second, (w .clear, ((λ _. lists), (refl, (omega (arith, n), tt))))))
 
 pub returns-in-rest : need.returns-in-rest
 returns-in-rest c = record { loads = search needs; sound = sound-view _ }
