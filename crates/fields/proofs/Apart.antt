@@ -8,7 +8,7 @@ use lib.Dec.{leb}
 use lib.ListN.{length}
 use Rattle.std.proofs.shelf.Tests.{le-leb, and-from}
 use Rattle.serialize.specs.declared.link.Link.{Link}
-use Rattle.serialize.specs.Objects.{linkAt, endOf, Ascends}
+use Rattle.serialize.specs.Objects.{linkAt, Ascends}
 use Rattle.serialize.specs.Width.{widthOf}
 
 -- the first link starts at p or later, and each other one behind the field of the one before

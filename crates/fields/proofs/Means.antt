@@ -1,27 +1,24 @@
 -- A field in the words of the format.
 use mathlib.Core.Path.{_≡_, refl, sym, ap, _∙_}
-use mathlib.Core.Bool.{Bool, true, false, cond, _&&_}
-use mathlib.Core.Logic.{_⊎_, inl, inr, ⊎-elim}
+use mathlib.Core.Bool.{true, false, cond}
+use mathlib.Core.Logic.{⊎-elim}
 use mathlib.Core.List.{List, [], _∷_}
 use Prim.Native.Nat.{ℕ, zero, suc, _+_, _*_, _≤_, _<_}
 use native.Mathlib.Nat.{add-zero}
 use native.Mathlib.Omega.{arith}
 use lib.Dec.{leb, eqb}
-use lib.ListN.{length, getD, drop, take}
+use lib.ListN.{length, getD, drop}
 use Rattle.std.proofs.shelf.Lists.{length-drop, getD-drop}
 use Rattle.std.proofs.shelf.Tests.{le-leb, lt-leb, leb-true, leb-false, and-parts, and-from, and-right, eqb-true, cases-bool, cases-lt, true≢false}
-use Rattle.std.proofs.shelf.Ways.{tells}
-use Rattle.std.specs.declared.option.Option.{Option}
 use Rattle.std.specs.declared.option.Option.the-variants.{Some, None}
-use Rattle.std.specs.declared.result.Result.{Result}
 use Rattle.std.specs.declared.result.Result.the-variants.{Ok, Err}
 use Rattle.serialize.specs.declared.link.Link.{Link}
 use Rattle.serialize.specs.declared.link.LinkWidth.{LinkWidth}
 use Rattle.serialize.specs.declared.link.LinkWidth.the-variants.{Two, Three, Four}
-use Rattle.serialize.specs.Objects.{Node, noLink, linkAt, endOf, wordAt, LinksFit}
+use Rattle.serialize.specs.Objects.{noLink, wordAt}
 use Rattle.serialize.specs.Width.{widthOf}
-use Rattle.fields.specs.Fields.{Rest, free, bare, front, word, offset, nullable, allowed, give, then, from, seek}
-use Rattle.fields.specs.Laws.{StartsIn, Has, Word-means, Offset-means, Nullable-means}
+use Rattle.fields.specs.Fields.{free, bare, front, offset, nullable, allowed, give, then, from, seek}
+use Rattle.fields.specs.Laws.{Word-means, Offset-means, Nullable-means}
 use Rattle.fields.proofs.Apart.{apart, ascending}
 use Rattle.fields.proofs.Steps.{word-is, offset-is}
 use Rattle.fields.proofs.Seeks.{least, word-ok, offset-ok, allowed-ok, then-ok, either, ok-pair}

@@ -2,24 +2,24 @@
 use mathlib.Core.Path.{_≡_, refl, sym, ap, _∙_}
 use mathlib.Core.Bool.{Bool, true, false, cond, _&&_}
 use mathlib.Core.Logic.{_⊎_, inl, inr, ⊎-elim}
-use mathlib.Core.List.{List, [], _∷_, _++_}
-use Prim.Native.Nat.{ℕ, zero, suc, _+_, _-_, _*_, _≤_, _<_}
-use native.Mathlib.Nat.{mul-zero, add-zero, add-assoc, mul-suc, suc-mul}
+use mathlib.Core.List.{List, [], _∷_}
+use Prim.Native.Nat.{ℕ, zero, suc, _+_, _*_, _≤_, _<_}
+use native.Mathlib.Nat.{mul-zero, add-assoc, mul-suc, suc-mul}
 use native.Mathlib.Omega.{arith}
-use lib.Dec.{leb, eqb, ltb}
+use lib.Dec.{leb, eqb}
 use lib.ListN.{length, getD, drop}
 use Rattle.std.proofs.shelf.Lists.{drop-drop, drop-all}
-use Rattle.std.proofs.shelf.Tests.{le-leb, lt-leb, leb-true, leb-false, eqb-true, and-parts, cases-bool, cases-lt}
+use Rattle.std.proofs.shelf.Tests.{le-leb, lt-leb, leb-true, leb-false, eqb-true, and-parts, cases-bool}
 use Rattle.std.specs.declared.option.Option.{Option}
 use Rattle.std.specs.declared.option.Option.the-variants.{Some, None}
 use Rattle.std.specs.declared.result.Result.{Result}
 use Rattle.std.specs.declared.result.Result.the-variants.{Ok, Err}
 use Rattle.serialize.specs.declared.link.Link.{Link}
 use Rattle.serialize.specs.declared.link.LinkWidth.{LinkWidth}
-use Rattle.serialize.specs.declared.link.LinkWidth.the-variants.{Two, Three, Four}
+use Rattle.serialize.specs.declared.link.LinkWidth.the-variants.{Two}
 use Rattle.serialize.specs.Objects.{noLink, Ascends}
 use Rattle.serialize.specs.Width.{widthOf}
-use Rattle.fields.specs.Fields.{Rest, Reader, free, bare, past, belongs, linked, front, word, offset, nullable, then, allowed, give, also, times, whole, ended, _⟫_, from, seek}
+use Rattle.fields.specs.Fields.{Rest, Reader, free, bare, past, belongs, linked, front, word, offset, nullable, then, allowed, give, also, times, ended, _⟫_, from, seek}
 use Rattle.fields.proofs.Apart.{apart, ascending}
 
 -- the links from a place on

@@ -1,22 +1,17 @@
 -- What a field does.
-use mathlib.Core.Path.{_≡_, refl, sym, ap, _∙_}
-use mathlib.Core.Bool.{Bool, true, false, cond, _&&_}
+use mathlib.Core.Path.{_≡_, refl}
+use mathlib.Core.Bool.{true, false}
 use mathlib.Core.List.{List, [], _∷_}
-use Prim.Native.Nat.{ℕ, zero, suc, _+_, _-_, _≤_, _<_}
+use Prim.Native.Nat.{ℕ, _+_, _≤_, _<_}
 use native.Mathlib.Omega.{arith}
-use lib.Dec.{leb, eqb}
 use lib.ListN.{length, getD, drop}
-use Rattle.std.proofs.shelf.Tests.{le-leb, lt-leb, eq-eqb, ne-eqb}
 use Rattle.std.proofs.shelf.Ways.{tells}
-use Rattle.std.specs.declared.option.Option.the-variants.{Some, None}
-use Rattle.std.specs.declared.result.Result.{Result}
 use Rattle.std.specs.declared.result.Result.the-variants.{Ok, Err}
 use Rattle.serialize.specs.declared.link.Link.{Link}
 use Rattle.serialize.specs.declared.link.LinkWidth.{LinkWidth}
-use Rattle.serialize.specs.declared.link.LinkWidth.the-variants.{Two, Three, Four}
 use Rattle.serialize.specs.Objects.{noLink}
 use Rattle.serialize.specs.Width.{widthOf}
-use Rattle.fields.specs.Fields.{Rest, Reader, bare, front, past, word, then, belongs, linked, offset}
+use Rattle.fields.specs.Fields.{Rest, bare, front, word, belongs, linked, offset}
 
 pub word-is : (s : Rest) (w : ℕ) (bs : List ℕ) → bare 2 s ≡ true → w ≡ front (s .bytes) → bs ≡ drop 2 (s .bytes) → word s ≡ Ok (w, record { place = s .place + 2; bytes = bs; links = s .links })
 unfolding word

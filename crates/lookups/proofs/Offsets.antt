@@ -12,9 +12,8 @@ use Rattle.std.specs.declared.result.Result.{Result}
 use Rattle.std.specs.declared.result.Result.the-variants.{Ok, Err}
 use Rattle.serialize.specs.declared.link.LinkWidth.the-variants.{Two}
 use Rattle.serialize.specs.Objects.{Node, nodeAt, Ascends}
-use Rattle.fields.specs.Fields.{Rest, Reader, start, seek, word, offset, allowed, give, times, _⟫_}
+use Rattle.fields.specs.Fields.{Rest, start, seek, word, offset, allowed, times}
 use Rattle.fields.proofs.Seeks.{ended-ok, then-ok, ok-pair, not-ok, offset-ok, word-steady, allowed-steady, offset-steady, times-steady, times-at}
-use Rattle.markbase.specs.declared.lookup_type.LookupType.the-variants.{MarkToBase}
 use Rattle.markbase.specs.LookupTypes.{typeFrom}
 use Rattle.markbase.specs.Nodes.{nodeOf, read}
 use Rattle.markbase.proofs.Records.{start-seek}

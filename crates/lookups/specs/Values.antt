@@ -12,7 +12,7 @@ use Rattle.markbase.specs.Nodes.{nodeOf, read}
 use Rattle.markbase.specs.Values.{Subtable}
 use Rattle.markbase.specs.Parts.{subtableOf}
 use Rattle.lookups.specs.declared.fault.LookupFault.{LookupFault}
-use Rattle.lookups.specs.declared.fault.LookupFault.the-variants.{BrokenLookup, BrokenPart}
+use Rattle.lookups.specs.declared.fault.LookupFault.the-variants.{BrokenLookup}
 use Rattle.lookups.specs.declared.lookup.Lookup.{Lookup}
 use Rattle.lookups.specs.Tables.{Fields, lookup}
 use Rattle.lookups.specs.Faults.{placed}

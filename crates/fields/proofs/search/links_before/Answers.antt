@@ -1,11 +1,9 @@
-use mathlib.Core.Path.{_≡_, refl, sym, ap, _∙_}
-use Prim.Native.Nat.{ℕ, _+_, _-_, _/_, _<_, _≤_}
+use mathlib.Core.Path.{refl}
+use Prim.Native.Nat.{_+_, _-_, _/_}
 use native.Mathlib.Omega.{arith}
 use native.Mathlib.Numerals.{add-one}
-use borrow.Author.Needs.{needs}
-use lib.ListN.{length, drop}
 use Rattle.fields.proofs.Apart.{ascending}
-use Rattle.fields.proofs.Seeks.{free-all, from-past, free-at, from-free}
+use Rattle.fields.proofs.Seeks.{free-all, from-past, free-at}
 use Rattle.fields.proofs.search.links_before.Needs as need
 
 pub loop-low-holds : need.loop-low-holds

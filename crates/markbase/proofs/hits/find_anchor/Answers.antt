@@ -1,10 +1,10 @@
-use mathlib.Core.Path.{_≡_, refl, sym, ap, _∙_}
+use mathlib.Core.Path.{refl, sym, ap, _∙_}
 use lib.ListN.{length}
 use Rattle.std.specs.declared.option.Option.the-variants.{Some}
 use Rattle.layout.specs.Lookup.{indexIn}
 use Rattle.graph.specs.Model.{view}
 use Rattle.markbase.specs.declared.base_array.BaseArray.{BaseArray}
-use Rattle.markbase.proofs.Finds.{Parts, parts-of, glyphs-are, base-missed, bases-stand, base-found}
+use Rattle.markbase.proofs.Finds.{parts-of, glyphs-are, base-missed, bases-stand, base-found}
 use Rattle.markbase.proofs.hits.find_anchor.Needs as need
 
 pub returns-in-Break-i : need.returns-in-Break-i

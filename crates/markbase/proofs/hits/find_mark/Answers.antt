@@ -1,4 +1,4 @@
-use mathlib.Core.Path.{_≡_, refl, sym, ap, _∙_, subst}
+use mathlib.Core.Path.{refl, sym, ap, _∙_, subst}
 use Prim.Native.Nat.{ℕ, _<_}
 use lib.ListN.{length}
 use Rattle.std.specs.Options.{Cases}
@@ -7,7 +7,7 @@ use Rattle.std.specs.declared.option.Option.the-variants.{Some}
 use Rattle.layout.specs.Lookup.{indexIn}
 use Rattle.graph.specs.Model.{view}
 use Rattle.markbase.specs.declared.mark_array.MarkArray.{MarkArray}
-use Rattle.markbase.proofs.Finds.{Parts, parts-of, glyphs-are, mark-missed, marks-stand, mark-found}
+use Rattle.markbase.proofs.Finds.{parts-of, glyphs-are, mark-missed, marks-stand, mark-found}
 use Rattle.markbase.proofs.hits.find_mark.Needs as need
 
 pub returns-in-Break-i : need.returns-in-Break-i

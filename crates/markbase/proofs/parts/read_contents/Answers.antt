@@ -1,5 +1,4 @@
 use mathlib.Core.Path.{sym, ap, _∙_, subst}
-use lib.ListN.{length}
 use Rattle.serialize.specs.Objects.{Node, nodeAt, Ascends}
 use Rattle.graph.specs.Model.{view}
 use Rattle.fields.specs.Arrays.{markArray, baseArray}
