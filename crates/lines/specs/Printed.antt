@@ -5,6 +5,8 @@ use Prim.Native.Nat.{ℕ, _^_, _<_}
 use lib.Chars.{codes}
 use lib.ListN.{getD}
 use Rattle.std.specs.Written.{decimal}
+use Rattle.std.specs.declared.option.Option.{Option}
+use Rattle.std.specs.declared.option.Option.the-variants.{Some, None}
 use Rattle.refusal.specs.declared.Refusal.{Refusal}
 use Rattle.refusal.specs.Numbers.{numbersOf, spaced}
 use Rattle.lines.specs.Grammar.{Numeral}
@@ -20,6 +22,19 @@ refusedLine echo r = echo ++ (codes " refused " ++ (spaced (numbersOf r) ++ (10 
 -- the answer to a call that gave a number: its echo, and the number
 abbrev pub doneLine : List ℕ → ℕ → List ℕ
 doneLine echo n = echo ++ (codes " done " ++ (decimal n ++ (10 ∷ [])))
+
+-- an anchor: its number, or a dash where it is null
+abbrev pub anchorText : Option ℕ → List ℕ
+anchorText (Some n) = decimal n
+anchorText None = codes "-"
+
+-- the answer to a call that found a hit: its echo, and both anchors
+abbrev pub hitLine : List ℕ → Option ℕ → Option ℕ → List ℕ
+hitLine echo mark base = echo ++ (codes " done " ++ (anchorText mark ++ (codes " " ++ (anchorText base ++ (10 ∷ [])))))
+
+-- the answer to a call that found none
+abbrev pub noneLine : List ℕ → List ℕ
+noneLine echo = echo ++ (codes " none" ++ (10 ∷ []))
 
 -- the decimal digits of a number of 32 bits are a numeral that spells it, and a zero in front stands alone
 abbrev pub DigitsSpell : Type 0

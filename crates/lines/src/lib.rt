@@ -7,5 +7,7 @@ pub use command::CommandDebug;
 pub use command::CommandEq;
 pub use command::CommandPartialEq;
 pub use printed::done_line;
+pub use printed::hit_line;
+pub use printed::none_line;
 pub use printed::refused_line;
 pub use printed::unknown_line;

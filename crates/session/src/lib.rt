@@ -6,6 +6,10 @@ ghost use Rattle.workspace.specs.Model.{view};
 ghost use Rattle.session.specs.Session.{programModel, LoadsFile, Answers};
 use graph::vertex::Capacity;
 use lines::Command;
+use lines::done_line;
+use lines::hit_line;
+use lines::none_line;
+use lines::refused_line;
 use lines::unknown_line;
 use refusal::Refusal;
 use refusal::Shortage;
@@ -46,11 +50,20 @@ pub fn load_file(workspace: &mut Workspace, file: &[u8]) -> Result<u32, Refusal>
     workspace.load(file)
 }
 
-// The line that answers a line of the input. No call stands behind a command yet, so each is answered as a line that spells none.
+// The line that answers a line of the input. A command whose call is not there yet is answered as a line that spells none.
 pub fn answer(workspace: &mut Workspace, heap: Global, line: &[u8]) -> Result<Vec<u8>, AllocError>
     ensures { λ r. ⌜ made r (λ out. Answers (view (now (workspace .entry))) (now (line .entry)) (vec-items out) (view (now (workspace .exit)))) ⌝ }
 {
     match Command::read(line) {
+        Some(Command::Open { vertex }) => match workspace.open(vertex) {
+            Ok(count) => done_line(heap, line, count),
+            Err(refusal) => refused_line(heap, line, refusal),
+        },
+        Some(Command::Attach { mark, base }) => match workspace.attach(mark, base) {
+            Ok(Some(hit)) => hit_line(heap, line, hit.mark, hit.base),
+            Ok(None) => none_line(heap, line),
+            Err(refusal) => refused_line(heap, line, refusal),
+        },
         Some(_) | None => unknown_line(heap),
     }
 }
