@@ -11,17 +11,25 @@ use Rattle.graph.specs.declared.tables.Graph.{Graph}
 use Rattle.graph.specs.Model.{view}
 use Rattle.graph.proofs.Views.{sound-objects}
 use Rattle.walk.specs.Reach.{Closed, Adds, Shows}
-use Rattle.walk.specs.Computed.{reached, markedSize, reachedSize}
+use Rattle.walk.specs.Computed.{reached, markedSize, reachedSize, Reached-grows}
 use Rattle.walk.specs.Sizes.{Grows}
 use Rattle.walk.proofs.Spread.{shows-closed, shows-more}
-use Rattle.walk.proofs.Lengths.{size-same, size-none, size-small}
+use Rattle.walk.proofs.Lengths.{size-grows, size-none, size-small}
 use Rattle.walk.proofs.Closure.{reached-long, reached-only, reached-right}
 
 -- what marks show has the size that is computed
 pub shows-size : (nodes : List Node) → SoundObjects nodes → (roots : List ℕ) (ms : List Bool) → length nodes ≤ length ms → Shows nodes roots ms → markedSize nodes ms ≡ reachedSize nodes roots
 shows-size nodes sound roots ms long h =
-    size-same nodes ms (reached nodes roots) long (omega (arith, reached-long nodes roots))
-    (λ w l. let right = reached-right nodes sound roots w l in (λ m. right .1 (h w .0 m), λ m. h w .1 (right .0 m)))
+    let right = reached-right nodes sound roots in
+    omega (
+      arith,
+      size-grows nodes ms (reached nodes roots) (omega (arith, reached-long nodes roots)) (λ w l m. right w l .1 (h w .0 m)),
+      size-grows nodes (reached nodes roots) ms long (λ w l m. h w .1 (right w l .0 m)),
+    )
+
+pub reached-grows : Reached-grows
+reached-grows nodes sound xs ys more =
+    size-grows nodes (reached nodes xs) (reached nodes ys) (omega (arith, reached-long nodes ys)) (λ w l m. reached-right nodes sound ys w l .1 (more w (reached-only nodes xs w m)))
 
 -- no root reaches nothing
 pub reached-none : (nodes : List Node) → reachedSize nodes [] ≡ 0

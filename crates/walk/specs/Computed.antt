@@ -1,7 +1,7 @@
 -- What roots reach, and its size, computed.
 use mathlib.Core.List.{List, [], _∷_, map}
 use mathlib.Core.Bool.{Bool, true, false}
-use Prim.Native.Nat.{ℕ, zero, suc, _+_, _<_}
+use Prim.Native.Nat.{ℕ, zero, suc, _+_, _<_, _≤_}
 use lib.ListN.{length, getD, set, replicate}
 use Rattle.serialize.specs.declared.link.Link.{Link}
 use Rattle.serialize.specs.Objects.{Node, SoundObjects}
@@ -53,3 +53,7 @@ Right nodes roots = (w : ℕ) → w < length nodes → (Marked (reached nodes ro
 -- they are for all sound objects
 abbrev pub Reached-right : Type 0
 Reached-right = (nodes : List Node) → SoundObjects nodes → (roots : List ℕ) → Right nodes roots
+
+-- roots that reach no less have no smaller size
+abbrev pub Reached-grows : Type 0
+Reached-grows = (nodes : List Node) → SoundObjects nodes → (xs ys : List ℕ) → ((w : ℕ) → Reached nodes xs w → Reached nodes ys w) → reachedSize nodes xs ≤ reachedSize nodes ys

@@ -11,9 +11,9 @@ use Rattle.walk.specs.declared.all.NoVertex.{NoVertex}
 use Rattle.walk.specs.Reach.{Shows}
 use Rattle.walk.specs.Computed.{reachedSize}
 
--- no graph's vertices are longer than this together
+-- no graph has more bytes
 abbrev pub sizeLimit : ℕ
-sizeLimit = 80000000000
+sizeLimit = 4000000
 
 -- one root more: the marks show what all of them reach, and what was added is how much larger that is
 pub record Grows (nodes : List Node) (roots : List ℕ) (v added : ℕ) (then : List Bool) : Type 0 where

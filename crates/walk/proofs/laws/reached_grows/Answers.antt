@@ -1,0 +1,5 @@
+use Rattle.walk.proofs.Growing.{reached-grows}
+use Rattle.walk.proofs.laws.reached_grows.Needs as need
+
+pub returns : need.returns
+returns c = reached-grows
