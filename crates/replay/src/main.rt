@@ -29,7 +29,11 @@ fn next_record<'a>(records: &'a [u8]) -> Option<Record<'a>> {
         return None;
     }
     let (body, rest) = rest.split_at(len);
-    Some(Record { tag: *tag, body, rest })
+    Some(Record {
+        tag: *tag,
+        body,
+        rest,
+    })
 }
 
 fn read_cases(rt: &LibcRuntime) -> io::Result<Vec<u8>> {
