@@ -17,6 +17,7 @@ at xs i = getD xs i 0
 abbrev pub classes : ℕ → List ℕ → List ℕ → Classes
 classes base things sizes = record { count = length things; size = sized (at things) (at sizes) base; monotone = sized-monotone (at things) (at sizes) base }
 
+-- the classes of a sizing
 abbrev pub classesOf : Shared → Classes
 classesOf s = classes (s .base) (now (s .things)) (now (s .sizes))
 
@@ -32,6 +33,7 @@ pub record Run (base : ℕ) (things sizes : List ℕ) (marks : List Bool) (total
   pub small : total ≤ base + (end - start) * 4294967295
   pub marked : (t : ℕ) → t < length marks → getD marks t false ≡ uses (at things) t start (end - start)
 
+-- a sizing stands at the run a .. b
 abbrev pub Running : Shared → ℕ → ℕ → Type 0
 Running s a b = Run (s .base) (now (s .things)) (now (s .sizes)) (now (s .marks)) (s .total) a b
 
@@ -39,5 +41,6 @@ Running s a b = Run (s .base) (now (s .things)) (now (s .sizes)) (now (s .marks)
 abbrev pub Lent : Shared → Shared → Type 0
 Lent s t = name (t .marks) ≡ name (s .marks)
 
+-- what was lent on is what was lent
 pub lent-on : (s t u : Shared) → Lent s t → Lent t u → Lent s u
 lent-on s t u p q = cc

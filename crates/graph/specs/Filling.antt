@@ -25,10 +25,11 @@ Room c t = (t .vertices ≤ c .vertices) × (t .links ≤ c .links) × (t .lengt
 abbrev pub firstOf : List ℕ → Trailer → ℕ → ℕ
 firstOf file t v = leading (λ (r : LinkRecord). ltb (r .parent) v) (recordsOf file t)
 
--- the record of a vertex, and all of them
+-- the record of a vertex
 abbrev pub rowAt : List ℕ → Trailer → ℕ → Vertex
 rowAt file t v = record { head = startAt file t v; len = lengthAt file t v; «first_link» = firstOf file t v; «link_count» = firstOf file t (v + 1) - firstOf file t v }
 
+-- the vertex table
 abbrev pub rowsOf : List ℕ → Trailer → List Vertex
 rowsOf file t = map (rowAt file t) (counting 0 (t .vertices))
 

@@ -10,27 +10,31 @@ use Rattle.graph.specs.declared.vertex.Vertex.{Vertex}
 use Rattle.serialize.specs.declared.link.Link.{Link}
 use Rattle.serialize.specs.Objects.{part, zeros, linkAt, endOf, fieldOf}
 
--- a record of the vertex table, and what stands past its end
+-- what stands past the vertex table's end
 abbrev pub noVertex : Vertex
 noVertex = record { head = 0; len = 0; «first_link» = 0; «link_count» = 0 }
 
+-- a record of the vertex table
 abbrev pub vertexAt : List Vertex → ℕ → Vertex
 vertexAt records v = getD records v noVertex
 
--- a vertex's bytes and its segment of the link table
+-- a vertex's bytes
 abbrev pub area : List ℕ → Vertex → List ℕ
 area bytes r = part (r .head) (r .len) bytes
 
+-- a vertex's segment of the link table
 abbrev pub segment : List Link → Vertex → List Link
 segment links r = part (r .«first_link») (r .«link_count») links
 
--- how many links each vertex has, how many those before v have, and all
+-- how many links each vertex has
 abbrev pub counts : List Vertex → List ℕ
 counts records = list.map (λ (r : Vertex). r .«link_count») records
 
+-- how many links the vertices before v have
 abbrev pub linksBefore : List Vertex → ℕ → ℕ
 linksBefore records v = sum (take v (counts records))
 
+-- how many links all vertices have
 abbrev pub linkTotal : List Vertex → ℕ
 linkTotal records = sum (counts records)
 
@@ -42,10 +46,11 @@ Holds limit capacity len reserved = (len ≤ capacity) × (capacity ≤ reserved
 abbrev pub Below : List Vertex → ℕ → Type 0
 Below records mark = (v : ℕ) → v < length records → vertexAt records v .head + vertexAt records v .len ≤ mark
 
--- the byte at p of the area is one of v's, and no byte belongs to two vertices
+-- the byte at p of the area is one of v's
 abbrev pub Owns : List Vertex → ℕ → ℕ → Type 0
 Owns records v p = (v < length records) × (vertexAt records v .head ≤ p) × (p < vertexAt records v .head + vertexAt records v .len)
 
+-- no byte belongs to two vertices
 abbrev pub Apart : List Vertex → Type 0
 Apart records = (p u v : ℕ) → (u < v) × Owns records u p × Owns records v p → ⊥
 

@@ -21,10 +21,11 @@ use Rattle.serialize.specs.Objects.{Node, part, zeros}
 abbrev pub u32At : List ℕ → ℕ → ℕ
 u32At file p = getD file p 0 * 16777216 + getD file (p + 1) 0 * 65536 + getD file (p + 2) 0 * 256 + getD file (p + 3) 0
 
--- the trailer's tag, which is MKOB, and its numbers: the places of the lengths and of the records, and how many of each there are
+-- the trailer's tag, which is MKOB
 abbrev pub tagOf : List ℕ → ℕ
 tagOf file = u32At file (length file - 20)
 
+-- the trailer's numbers: the places of the lengths and of the records, and how many of each there are
 abbrev pub numbersOf : List ℕ → Trailer
 numbersOf file = record {
   lengths = u32At file (length file - 20 + 4);
@@ -33,17 +34,19 @@ numbersOf file = record {
   links = u32At file (length file - 20 + 16);
 }
 
--- the length of a vertex, all lengths, and where a vertex's bytes begin
+-- the length of a vertex
 abbrev pub lengthAt : List ℕ → Trailer → ℕ → ℕ
 lengthAt file t v = u32At file (t .lengths + 4 * v)
 
+-- the lengths of all vertices
 abbrev pub lengthsOf : List ℕ → Trailer → List ℕ
 lengthsOf file t = map (lengthAt file t) (counting 0 (t .vertices))
 
+-- where a vertex's bytes begin
 abbrev pub startAt : List ℕ → Trailer → ℕ → ℕ
 startAt file t v = sum (take v (lengthsOf file t))
 
--- a link record, and all of them
+-- a link record
 abbrev pub recordAt : List ℕ → Trailer → ℕ → LinkRecord
 recordAt file t i = record {
   parent = u32At file (t .records + 16 * i);
@@ -52,6 +55,7 @@ recordAt file t i = record {
   width = u32At file (t .records + 16 * i + 12);
 }
 
+-- all link records
 abbrev pub recordsOf : List ℕ → Trailer → List LinkRecord
 recordsOf file t = map (recordAt file t) (counting 0 (t .links))
 
@@ -75,19 +79,21 @@ soundAlone file t r =
 abbrev pub follows : LinkRecord → LinkRecord → Bool
 follows p r = ltb (p .parent) (r .parent) || (eqb (p .parent) (r .parent) && leb (p .position + p .width) (r .position))
 
--- whether a test holds of every number below n, and the lowest at which it fails
+-- whether a test holds of every number below n
 abbrev pub every : ℕ → (ℕ → Bool) → Bool
 every zero p = true
 every (suc n) p = every n p && p n
 
+-- the lowest number below n at which a test fails
 abbrev pub lowestFailing : ℕ → (ℕ → Bool) → Option ℕ
 lowestFailing zero p = None
 lowestFailing (suc n) p = elim (lowestFailing n p) [ None ↦ cond (p n) None (Some n) | Some i ↦ Some i ]
 
--- a record keeps every rule, alone and with those before it; the first that does not
+-- a record keeps every rule, alone and with those before it
 abbrev pub keepsRules : List ℕ → Trailer → ℕ → Bool
 keepsRules file t i = soundAlone file t (recordAt file t i) && every i (λ j. follows (recordAt file t j) (recordAt file t i))
 
+-- the first record that does not
 unfoldable pub firstBroken : List ℕ → Trailer → Option ℕ
 firstBroken file t = lowestFailing (t .links) (keepsRules file t)
 

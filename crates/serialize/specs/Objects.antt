@@ -18,16 +18,19 @@ pub record Node : Type 0 where
   pub bytes : List ℕ
   pub links : List Link
 
--- a vertex by its number, and what stands past the last
+-- what stands past the last vertex
 abbrev pub noNode : Node
 noNode = record { bytes = []; links = [] }
 
+-- a vertex by its number
 abbrev pub nodeAt : List Node → ℕ → Node
 nodeAt nodes v = getD nodes v noNode
 
+-- a vertex's bytes
 abbrev pub bytesAt : List Node → ℕ → List ℕ
 bytesAt nodes v = nodeAt nodes v .bytes
 
+-- a vertex's links
 abbrev pub linksAt : List Node → ℕ → List Link
 linksAt nodes v = nodeAt nodes v .links
 
@@ -35,10 +38,11 @@ linksAt nodes v = nodeAt nodes v .links
 abbrev pub allLinks : List Node → List Link
 allLinks nodes = joined (λ (x : Node). x .links) nodes
 
--- how many links lead to a vertex, of a list and of all
+-- how many links of a list lead to a vertex
 abbrev pub leadingTo : List Link → ℕ → ℕ
 leadingTo links v = countBy (λ (l : Link). eqb (l .child) v) links
 
+-- how many links of all vertices lead to a vertex
 abbrev pub incoming : List Node → ℕ → ℕ
 incoming nodes v = leadingTo (allLinks nodes) v
 
@@ -55,10 +59,11 @@ zeros (b ∷ bs) = eqb b 0 && zeros bs
 abbrev pub wordAt : List ℕ → ℕ → ℕ
 wordAt bytes p = getD bytes p 0 * 256 + getD bytes (p + 1) 0
 
--- a link by its index, and what stands past the last
+-- what stands past the last link
 abbrev pub noLink : Link
 noLink = record { position = 0; child = 0; width = Two }
 
+-- a link by its index
 abbrev pub linkAt : List Link → ℕ → Link
 linkAt links i = getD links i noLink
 
