@@ -18,7 +18,7 @@ use Rattle.serialize.specs.declared.link.Link.{Link}
 use Rattle.serialize.specs.Objects.{Node, nodeAt, Ascends}
 use Rattle.layout.specs.Format.{readCoverage}
 use Rattle.layout.specs.Lookup as layout
-use Rattle.layout.specs.Lookup.{covered, Sound, indexIn}
+use Rattle.layout.specs.Lookup.{covered, indexIn}
 use Rattle.fields.specs.Arrays.{markArray, baseArray}
 use Rattle.refusal.specs.declared.Part.{Part}
 use Rattle.markbase.specs.declared.table.MarkBasePosFormat1.{MarkBasePosFormat1}
@@ -98,9 +98,6 @@ unlinked (l ∷ ls) (Err p) gs e = let z : _≡_ {A = ℕ} 0 1 = cc in absurd (o
 
 pub covered-are : (x : Node) (gs : List ℕ) → coverage x ≡ Ok gs → covered (x .bytes) ≡ gs
 covered-are x gs e = ap layout.given (unlinked (x .links) (readCoverage (x .bytes)) gs e)
-
-pub covers-sound : (x : Node) (gs : List ℕ) → coverage x ≡ Ok gs → Sound (x .bytes)
-covers-sound x gs e = unlinked (x .links) (readCoverage (x .bytes)) gs e ∙ ap Ok (sym (covered-are x gs e))
 
 -- the same of bytes that are those of the vertex
 pub glyphs-are : (x y : Node) (bs gs : List ℕ) → bs ≡ x .bytes → x ≡ y → coverage y ≡ Ok gs → covered bs ≡ gs
