@@ -1,4 +1,6 @@
 // `chain`: walks a chain of as many vertices as a graph can hold, and prints its length.
+#![tactic(auto)]
+
 use graph::tables::Graph;
 use std::alloc::{AllocError, Global};
 use walk::all::{NoVertex, size_of_all};

@@ -1,4 +1,6 @@
 // Writers of OpenType Coverage tables.
+#![tactic(auto)]
+
 mod format1;
 mod format2;
 mod laws;

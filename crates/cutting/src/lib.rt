@@ -1,4 +1,6 @@
 // Cuts classes into runs of neighbours, each as long as a reach allows.
+#![tactic(auto)]
+
 ghost use Rattle.std.specs.Prelude.{◌≡◌, ℕ, ◌+◌, ◌<◌, ◌≤◌, ◌++◌, length, drop, replicate};
 ghost use Rattle.cutting.specs.Computed.{Agrees};
 ghost use Rattle.cutting.specs.Cutting.{Monotone};

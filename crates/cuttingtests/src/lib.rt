@@ -1,4 +1,6 @@
 // Tests of the cuttings of classes.
+#![tactic(auto)]
+
 ghost use Rattle.std.specs.Prelude.{◌≡◌, ◌<◌, ◌≤◌, true, false, length, replicate, if◌then◌else◌, slice_index, slice_index_or, slice_set};
 ghost use Rattle.cutting.specs.SplitPoints.{Clear, SplitPoints};
 ghost use Rattle.cuttingtests.specs.Shared.{classes, classes_of, Ready, Running, Lent, lent_on};

@@ -1,4 +1,6 @@
 // Reading a vertex field by field, each field with its byte place.
+#![tactic(auto)]
+
 mod cursor;
 mod fault;
 mod laws;

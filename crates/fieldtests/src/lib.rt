@@ -1,4 +1,6 @@
 // Runs of the readers: every kind of broken field, with its place.
+#![tactic(auto)]
+
 #[cfg(test)]
 mod arrays;
 #[cfg(test)]

@@ -1,4 +1,6 @@
 // OpenType Coverage tables: what their bytes say, and a borrowed view of a table.
+#![tactic(auto)]
+
 mod coverage;
 mod located;
 mod reader;

@@ -1,4 +1,6 @@
 // Runs the coverage reader and the writers over tables of cases; what it must print stands in the file `stdout`.
+#![tactic(auto)]
+
 use coverage_writers::{CoverageFormat1, CoverageTable, CoverageWriter};
 use layout::Coverage;
 use std::io;

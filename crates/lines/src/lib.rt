@@ -1,4 +1,6 @@
 // The lines of a session: the commands that are read, and the lines that are printed.
+#![tactic(auto)]
+
 mod command;
 mod printed;
 

@@ -1,4 +1,6 @@
 // Lines that are read and lines that are printed, on examples.
+#![tactic(auto)]
+
 #[cfg(test)]
 mod tests {
     use lines::{Command, done_line, refused_line, unknown_line};

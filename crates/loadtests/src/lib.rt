@@ -1,4 +1,6 @@
 // Object files that load and object files that do not.
+#![tactic(auto)]
+
 #[cfg(test)]
 mod files;
 #[cfg(test)]

@@ -1,4 +1,5 @@
 // Lookups: their own fields, all their subtables, and the first hit of a mark and a base.
+#![tactic(auto)]
 
 mod fault;
 mod hits;

@@ -1,4 +1,6 @@
 // Mark-to-base lookups: reading their parts field by field, and the hits of a mark and a base.
+#![tactic(auto)]
+
 mod base_array;
 mod coverage;
 mod data;

@@ -1,4 +1,6 @@
 // `marksplit`: loads `objects.bin` and answers the lines of standard input, one line for each.
+#![tactic(auto)]
+
 use anyhow::anyhow;
 use lines::refused_line;
 use session::{LONGEST_FILE, answer, load_file, new_workspace};

@@ -1,4 +1,6 @@
 //! What a subtable holds, cut by runs of its classes: pieces, what they keep, and the sizes of runs.
+#![tactic(auto)]
+
 ghost use Rattle.pieces.specs.Keeping.{PiecesKeep, PiecesCompose, WholePiece, HitsFromAnchors};
 ghost use Rattle.pieces.specs.Sizes.{RunSizes, SizesStay};
 

@@ -1,4 +1,6 @@
 // Why a call declines: one enum for all calls, and the numbers that each cause is reported by.
+#![tactic(auto)]
+
 ghost use Rattle.std.specs.Prelude.{◌≡◌, Some, decimal};
 ghost use Rattle.refusal.specs.Numbers.{shortage_number, part_number, number_of, numbers_of, spaced};
 

@@ -1,6 +1,8 @@
 // Runs every case of `cases.bin` in a workspace of its own, and prints what `marksplit` would answer.
 //
 // The file is a row of records: a tag, the length of the body as four bytes, and the body. `N` begins a case and has its name, `F` has its objects, `L` is one line of its input.
+#![tactic(auto)]
+
 use lines::refused_line;
 use session::{answer, load_file, new_workspace};
 use std::io::{Read, Write};

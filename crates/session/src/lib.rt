@@ -1,4 +1,6 @@
 // One run of the program `marksplit`: a workspace of fixed size, a file that is loaded, and lines that are answered.
+#![tactic(auto)]
+
 ghost use Rattle.std.specs.Prelude.{◌≡◌, IfOk};
 ghost use Rattle.workspace.specs.Model.{view};
 ghost use Rattle.session.specs.Session.{program_model, LoadsFile, Answers};

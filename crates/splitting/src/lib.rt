@@ -1,4 +1,6 @@
 //! What the calls that cut and extend a lookup leave, and what holds of it.
+#![tactic(auto)]
+
 ghost use Rattle.splitting.specs.Laws.{CuttingStands, ExtendingStands, StandingOpens};
 
 /// A lookup that was cut stands again, with the hits that it had.

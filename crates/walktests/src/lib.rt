@@ -1,4 +1,6 @@
 // Walks over graphs that were loaded.
+#![tactic(auto)]
+
 ghost use Rattle.walktests.specs.Worked.{Worked};
 
 pub mod files;

@@ -1,4 +1,6 @@
 //! The worked examples, as rows of one table.
+#![tactic(auto)]
+
 ghost use Rattle.std.specs.List.{AllByRecursion as All};
 ghost use Rattle.worked.specs.Rows.{Holds, table};
 

@@ -1,4 +1,6 @@
 //! Tables as they are written, and the laws of writing and reading them.
+#![tactic(auto)]
+
 ghost use Rattle.written.specs.Laws.{MarksComeBack, BasesComeBack, SubtablesComeBack, ExtensionsComeBack, LookupsComeBack, LinksLead, Lengths};
 
 /// What is written of values is read back as those values.
