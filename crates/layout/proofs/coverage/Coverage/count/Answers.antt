@@ -6,6 +6,6 @@ use Rattle.layout.proofs.coverage.Coverage.count.Goals as goal
 pub returns : goal.returns
 returns c =
     let bs = c.args.self.now.bytes.now in
-    let k = c.range-count-ranges.result - 1 in
+    let k = c.range_count-ranges.result - 1 in
     let more : range_count bs ≡ suc k = omega arith in
     omega (arith, count_by_last bs c.requires k more)

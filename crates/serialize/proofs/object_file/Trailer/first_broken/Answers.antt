@@ -3,9 +3,9 @@ use Rattle.serialize.specs.ObjectFile.{keeps_rules, first_broken}
 use Rattle.serialize.proofs.Firsts.{none_in, some_in}
 use Rattle.serialize.proofs.object_file.Trailer.first_broken.Goals as goal
 
-pub returns-in-default : goal.returns-in-default
+pub returns-in_default : goal.returns-in_default
 unfolding first_broken
-returns-in-default c = sym (some_in c.args.self.links (keeps_rules c.args.file.now c.args.self) c.loop-i.i (omega arith) c.loop-i.invariant.0 c.in-default.ensures)
+returns-in_default c = sym (some_in c.args.self.links (keeps_rules c.args.file.now c.args.self) c.loop-i.i (omega arith) c.loop-i.invariant.0 c.in_default.ensures)
 
 pub loop-i-preserved : goal.loop-i-preserved
 loop-i-preserved c = let e = c.in-Some.ensures in (below_more _ _ c.loop-i.invariant.0 e.0, e.1)

@@ -8,23 +8,23 @@ use Rattle.serialize.proofs.object_file.Trailer.is_sound.Goals as goal
 pub length-requires : goal.length-requires
 length-requires c = let w = whole c.args.file.now c.args.self c.requires.trailer in omega arith
 
-pub overflow-add-start : goal.overflow-add-start
-overflow-add-start c =
+pub overflow_add-start : goal.overflow_add-start
+overflow_add-start c =
     let w = whole c.args.file.now c.args.self c.requires.trailer in
     omega (arith, start_end _ _ w c.args.link.parent c.requires.parent)
 
-pub overflow-add-start-2 : goal.overflow-add-start-2
-overflow-add-start-2 c =
+pub overflow_add-start-2 : goal.overflow_add-start-2
+overflow_add-start-2 c =
     let w = whole c.args.file.now c.args.self c.requires.trailer in
     omega (arith, start_end _ _ w c.args.link.parent c.requires.parent)
 
-pub overflow-add-start-3 : goal.overflow-add-start-3
-overflow-add-start-3 c =
+pub overflow_add-start-3 : goal.overflow_add-start-3
+overflow_add-start-3 c =
     let w = whole c.args.file.now c.args.self c.requires.trailer in
     omega (arith, start_end _ _ w c.args.link.parent c.requires.parent)
 
-pub slice-bounds-is-zero-end : goal.slice-bounds-is-zero-end
-slice-bounds-is-zero-end c =
+pub slice_bounds-is_zero-end : goal.slice_bounds-is_zero-end
+slice_bounds-is_zero-end c =
     let w = whole c.args.file.now c.args.self c.requires.trailer in
     omega (arith, start_end _ _ w c.args.link.parent c.requires.parent)
 
@@ -33,7 +33,7 @@ returns c =
     let file = c.args.file.now in
     let r = c.args.link in
     let n : c.args.start + r.position + r.width - (c.args.start + r.position) ≡ r.width = omega arith in
-    let e : c.is-zero.result ≡ zeros (part (start_at file c.args.self r.parent + r.position) r.width file) =
-    c.is-zero.ensures
+    let e : c.is_zero.result ≡ zeros (part (start_at file c.args.self r.parent + r.position) r.width file) =
+    c.is_zero.ensures
     ∙ (ap (λ (k : ℕ). zeros (part (c.args.start + r.position) k file)) n ∙ ap (λ (k : ℕ). zeros (part (k + r.position) r.width file)) c.requires.start) in
-    grind (arith, nat_tests, e, c.length.ensures, c.new-checked.ensures, c.is-none.ensures)
+    grind (arith, nat_tests, e, c.length.ensures, c.new_checked.ensures, c.is_none.ensures)
