@@ -4,8 +4,8 @@ use Rattle.fields.specs.Cursors.{rest}
 use Rattle.fields.proofs.Steps.{offset_none, offset_short, offset_elsewhere, offset_other, offset_is}
 use Rattle.fields.proofs.cursor.Cursor.role.Goals as goal
 
-pub returns-in-default : goal.returns-in-default
-returns-in-default c = offset_none c.args.width (rest c.args.self.now) (search rules)
+pub returns-in_default : goal.returns-in_default
+returns-in_default c = offset_none c.args.width (rest c.args.self.now) (search rules)
 
 pub returns-then-self-wide : goal.returns-then-self-wide
 returns-then-self-wide c = offset_short c.args.width (rest c.args.self.now) (omega arith)
