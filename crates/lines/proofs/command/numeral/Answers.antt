@@ -6,12 +6,12 @@ use Rattle.lines.specs.Reading.{numeral_of}
 use Rattle.lines.proofs.Digits.{digit_in}
 use Rattle.lines.proofs.command.numeral.Goals as goal
 
-pub returns-then-is-empty : goal.returns-then-is-empty
+pub returns-then-is_empty : goal.returns-then-is_empty
 unfolding numeral_of
-returns-then-is-empty c = grind (arith, nat_tests)
+returns-then-is_empty c = grind (arith, nat_tests)
 
-pub overflow-sub-digit : goal.overflow-sub-digit
-overflow-sub-digit c = (digit_in _ _ c.requires c.loop-digit-test.true).0
+pub overflow_sub-digit : goal.overflow_sub-digit
+overflow_sub-digit c = (digit_in _ _ c.requires c.loop-digit-test.true).0
 
 pub loop-digit-preserved : goal.loop-digit-preserved
 loop-digit-preserved c =

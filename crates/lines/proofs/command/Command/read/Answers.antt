@@ -7,5 +7,5 @@ use Rattle.lines.proofs.command.Command.read.Goals as goal
 pub returns : goal.returns
 returns c =
     let line = c.args.line.now in
-    let e = command_by_lem line _ c.from.result c.with-letter.result (search rules) c.from.ensures (take_rest line 1) c.with-letter.ensures in
-    record { value = e; reads = reads line c.with-letter.result e }
+    let e = command_by_lem line _ c.from.result c.with_letter.result (search rules) c.from.ensures (take_rest line 1) c.with_letter.ensures in
+    record { value = e; reads = reads line c.with_letter.result e }
