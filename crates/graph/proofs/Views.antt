@@ -85,13 +85,6 @@ same_tables {rs} {rs'} {ls} {ls'} {bs} {bs'} {mark} {mark'} {total} {total'} x e
     (subst (λ (a : List ℕ). Tables rs ls a mark' total') (sym eb)
     (subst (λ (a : ℕ). Tables rs ls bs a total') (sym em) (subst (λ (a : ℕ). Tables rs ls bs mark a) (sym et) x))))
 
--- the ghost fields of a graph, in their order
-abbrev pub Ghosts : List Vertex → List Link → List ℕ → ℕ → ℕ → Type 0 → Type 0 → Type 0 → Type 0
-Ghosts rs ls bs mark total V L B = V × (L × (B × (Below rs mark × (Apart rs × (Placed rs × ((link_total rs ≡ total) × (Ordered rs ls × (Inside rs ls × (Blank rs ls bs × Unit {0})))))))))
-
-pub ghosts : {rs : List Vertex} {ls : List Link} {bs : List ℕ} {mark total : ℕ} {V L B : Type 0} → V → L → B → Tables rs ls bs mark total → Ghosts rs ls bs mark total V L B
-ghosts v l b x = (v, (l, (b, (x.below, (x.apart, (x.placed, (x.covered, (x.ordered, (x.inside, (x.blank, tt))))))))))
-
 -- what a graph stands for, from its tables
 pub view_made : (g : Graph) (rs : List Vertex) (ls : List Link) (bs : List ℕ) (nodes : List Node) (mark : ℕ) (capacity : Capacity)
     → vec_items g.vertices ≡ rs → vec_items g.links ≡ ls → vec_items g.bytes ≡ bs → map (node bs ls) rs ≡ nodes → vec_len g.bytes ≡ mark → g.capacity ≡ capacity

@@ -15,7 +15,7 @@ pub loop-glyph-preserved : goal.loop-glyph-preserved
 loop-glyph-preserved c =
     let gs = c.args.glyphs.now in
     let k = c.loop-glyph.glyph-index in
-    let e = c.loop-glyph.invariant ∙ at_drop_more (ascends c.loop-glyph.low) gs k 0 c.loop-glyph-test.true ∙ ascends_next c.loop-glyph.low (get_or gs k 0) (drop (k + 1) gs) (omega arith) (omega (arith, c.type-inv.glyphs k)) in
+    let e = c.loop-glyph.invariant ∙ at_drop_more (ascends c.loop-glyph.low) gs k 0 c.loop-glyph-test.true ∙ ascends_next c.loop-glyph.low (get_or gs k 0) (drop (k + 1) gs) (omega arith) (omega (arith, c.type_inv.glyphs k)) in
     e ∙ ap (λ g. ascends (g + 1) (drop (k + 1) gs)) (sym c.from-low.ensures)
 
 pub returns : goal.returns

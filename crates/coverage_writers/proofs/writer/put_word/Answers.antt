@@ -2,4 +2,4 @@ use Rattle.coverage_writers.specs.Writes.{put_two}
 use Rattle.coverage_writers.proofs.writer.put_word.Goals as goal
 
 pub returns : goal.returns
-returns c = rw c.to-be-bytes.ensures (put_two c.args.out.now c.args.at _ _ c.requires)
+returns c = rw c.to_be_bytes.ensures (put_two c.args.out.now c.args.at _ _ c.requires)

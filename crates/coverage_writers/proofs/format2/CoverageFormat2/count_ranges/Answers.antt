@@ -14,10 +14,10 @@ loop-glyph-preserved c =
     elim c.if-from.branch [
       | then-from w ↦
           let e = count_new rest k c.if-from.end c.loop-glyph-test.true w.end-is c.loop-glyph.end (λ e. w.if-from.true (omega arith)) in
-          (omega (arith, rest_read xs k, c.type-inv.glyphs (1 + k)), omega arith, omega arith)
+          (omega (arith, rest_read xs k, c.type_inv.glyphs (1 + k)), omega arith, omega arith)
       | else-from w ↦
           let e = count_same rest k c.if-from.end c.loop-glyph-test.true w.end-is c.loop-glyph.end (omega arith) in
-          (omega (arith, rest_read xs k, c.type-inv.glyphs (1 + k)), omega arith, omega arith)
+          (omega (arith, rest_read xs k, c.type_inv.glyphs (1 + k)), omega arith, omega arith)
     ]
 
 pub returns : goal.returns

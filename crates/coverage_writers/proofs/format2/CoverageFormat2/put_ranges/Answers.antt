@@ -13,25 +13,25 @@ loop-glyph-init c =
     let xs = c.args.glyphs.now in
     let h : 0 < length xs = search rules in
     let l = listed_parts xs h c.requires.0 in
-    let a = header xs c.args.out.now c.put-word.new.out c.put-word-2.new.out c.args.count c.requires.1.0 c.put-word.ensures c.put-word-2.ensures in
-    let b = along_anew (format2 xs) c.args.out.now c.put-word-2.new.out 4 _ a in
-    (subst (λ rs. Along (format2 xs) c.put-word-2.new.out c.put-word-2.new.out (bytes_of (range_words 0 rs)) 4) (ap runs (first_rest xs 0 h)) b, l.1, omega arith, omega arith, l.0)
+    let a = header xs c.args.out.now c.put_word.new.out c.put_word-2.new.out c.args.count c.requires.1.0 c.put_word.ensures c.put_word-2.ensures in
+    let b = along_anew (format2 xs) c.args.out.now c.put_word-2.new.out 4 _ a in
+    (subst (λ rs. Along (format2 xs) c.put_word-2.new.out c.put_word-2.new.out (bytes_of (range_words 0 rs)) 4) (ap runs (first_rest xs 0 h)) b, l.1, omega arith, omega arith, l.0)
 
-pub put-range-requires : goal.put-range-requires
-put-range-requires c = let r = range_room c.args.glyphs.now (drop c.loop-glyph.glyph-index (behind c.args.glyphs.now)) c.put-word-2.new.out c.loop-glyph.out c.loop-glyph.start c.loop-glyph.end c.loop-glyph.index c.loop-glyph.at c.loop-glyph.invariant.0 in omega arith
+pub put_range-requires : goal.put_range-requires
+put_range-requires c = let r = range_room c.args.glyphs.now (drop c.loop-glyph.glyph-index (behind c.args.glyphs.now)) c.put_word-2.new.out c.loop-glyph.out c.loop-glyph.start c.loop-glyph.end c.loop-glyph.index c.loop-glyph.at c.loop-glyph.invariant.0 in omega arith
 
-pub overflow-add-index : goal.overflow-add-index
-overflow-add-index c =
+pub overflow_add-index : goal.overflow_add-index
+overflow_add-index c =
     let r = ascends_on (behind c.args.glyphs.now) c.loop-glyph.glyph-index _ c.loop-glyph-test.true refl c.loop-glyph.end c.loop-glyph.invariant.1 in
     omega arith
 
-pub overflow-add-index-then-from : goal.overflow-add-index-then-from
-overflow-add-index-then-from c =
+pub overflow_add-index-then-from : goal.overflow_add-index-then-from
+overflow_add-index-then-from c =
     let r = ascends_on (behind c.args.glyphs.now) c.loop-glyph.glyph-index _ c.loop-glyph-test.true refl c.loop-glyph.end c.loop-glyph.invariant.1 in
     omega arith
 
-pub overflow-add-at : goal.overflow-add-at
-overflow-add-at c = let r = range_room c.args.glyphs.now (drop c.loop-glyph.glyph-index (behind c.args.glyphs.now)) c.put-word-2.new.out c.loop-glyph.out c.loop-glyph.start c.loop-glyph.end c.loop-glyph.index c.loop-glyph.at c.loop-glyph.invariant.0 in omega arith
+pub overflow_add-at : goal.overflow_add-at
+overflow_add-at c = let r = range_room c.args.glyphs.now (drop c.loop-glyph.glyph-index (behind c.args.glyphs.now)) c.put_word-2.new.out c.loop-glyph.out c.loop-glyph.start c.loop-glyph.end c.loop-glyph.index c.loop-glyph.at c.loop-glyph.invariant.0 in omega arith
 
 pub loop-glyph-preserved : goal.loop-glyph-preserved
 loop-glyph-preserved c =
@@ -41,12 +41,12 @@ loop-glyph-preserved c =
     let e = c.loop-glyph.end in
     let inv = c.loop-glyph.invariant in
     let plan = format2 xs in
-    let old = c.put-word-2.new.out in
+    let old = c.put_word-2.new.out in
     elim c.if-from.branch [
       | then-from w ↦
           let r = ascends_on (behind xs) k c.if-from.end on w.end-is e inv.1 in
           let start : c.if-from.end ≡ c.if-from.start = omega arith in
-          let a = range_new (behind xs) k c.if-from.end on w.end-is plan old c.loop-glyph.out c.loop-glyph.start e c.loop-glyph.index c.loop-glyph.at inv.0 c.if-from.out c.if-from.index (λ x. w.if-from.true (omega arith)) (omega arith) (w.out-is ∙ w.put-range.ensures) in
+          let a = range_new (behind xs) k c.if-from.end on w.end-is plan old c.loop-glyph.out c.loop-glyph.start e c.loop-glyph.index c.loop-glyph.at inv.0 c.if-from.out c.if-from.index (λ x. w.if-from.true (omega arith)) (omega arith) (w.out-is ∙ w.put_range.ensures) in
           let b = subst (λ n. Along plan old c.if-from.out (bytes_of (range_words c.if-from.index (runs_from c.if-from.end c.if-from.end (drop (k + 1) (behind xs))))) n) (sym w.at-is) a in
           (subst (λ s. Along plan old c.if-from.out (bytes_of (range_words c.if-from.index (runs_from s c.if-from.end (drop (k + 1) (behind xs))))) c.if-from.at) start b, r.2, omega arith, omega arith, r.1)
       | else-from w ↦
@@ -55,17 +55,17 @@ loop-glyph-preserved c =
           (rw (w.out-is, w.start-is, w.index-is, w.at-is) a, r.2, omega arith, omega arith, r.1)
     ]
 
-pub put-range-requires-2 : goal.put-range-requires-2
-put-range-requires-2 c = let r = range_room c.args.glyphs.now (drop c.loop-glyph.glyph-index (behind c.args.glyphs.now)) c.put-word-2.new.out c.loop-glyph.out c.loop-glyph.start c.loop-glyph.end c.loop-glyph.index c.loop-glyph.at c.loop-glyph.invariant.0 in omega arith
+pub put_range-requires-2 : goal.put_range-requires-2
+put_range-requires-2 c = let r = range_room c.args.glyphs.now (drop c.loop-glyph.glyph-index (behind c.args.glyphs.now)) c.put_word-2.new.out c.loop-glyph.out c.loop-glyph.start c.loop-glyph.end c.loop-glyph.index c.loop-glyph.at c.loop-glyph.invariant.0 in omega arith
 
 pub returns : goal.returns
 returns c =
     let xs = c.args.glyphs.now in
     let plan = format2 xs in
     let old = c.args.out.now in
-    let mid = c.put-word-2.new.out in
+    let mid = c.put_word-2.new.out in
     let n = 4 + 6 * c.args.count in
     let size : length plan ≡ n = omega (arith, length-format2 xs) in
-    let h = header xs old c.put-word.new.out mid c.args.count c.requires.1.0 c.put-word.ensures c.put-word-2.ensures in
-    let a = range_last (behind xs) c.loop-glyph.glyph-index plan mid c.loop-glyph.out c.put-range-2.new.out c.loop-glyph.start c.loop-glyph.end c.loop-glyph.index c.loop-glyph.at c.loop-glyph-test.false c.loop-glyph.invariant.0 c.put-range-2.ensures in
-    along_end plan mid c.put-range-2.new.out (c.loop-glyph.at + 6) n size a ∙ ap (λ l. plan ++ l) (along_past plan old mid 4 (bytes_of (range_words 0 (runs xs))) n h (omega arith))
+    let h = header xs old c.put_word.new.out mid c.args.count c.requires.1.0 c.put_word.ensures c.put_word-2.ensures in
+    let a = range_last (behind xs) c.loop-glyph.glyph-index plan mid c.loop-glyph.out c.put_range-2.new.out c.loop-glyph.start c.loop-glyph.end c.loop-glyph.index c.loop-glyph.at c.loop-glyph-test.false c.loop-glyph.invariant.0 c.put_range-2.ensures in
+    along_end plan mid c.put_range-2.new.out (c.loop-glyph.at + 6) n size a ∙ ap (λ l. plan ++ l) (along_past plan old mid 4 (bytes_of (range_words 0 (runs xs))) n h (omega arith))

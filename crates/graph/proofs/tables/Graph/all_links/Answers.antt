@@ -5,4 +5,4 @@ use Rattle.graph.proofs.tables.Graph.all_links.Goals as goal
 pub returns : goal.returns
 returns c =
     let g = c.args.self.now in
-    record { value = c.as-slice.ensures.value ∙ sym (all_joined g); bound = omega (arith, g.links_hold, c.as-slice.ensures.len) }
+    record { value = c.as_slice.ensures.value ∙ sym (all_joined g); bound = omega (arith, g.links_hold, c.as_slice.ensures.len) }

@@ -12,8 +12,8 @@ loop-link-init c v h = let n = length c.args.counts.now in ap (λ (xs : List ℕ
 pub bounds-counts-link : goal.bounds-counts-link
 bounds-counts-link c = omega (arith, c.requires.children c.loop-link.link-index (omega arith), c.loop-link.auto.counts)
 
-pub overflow-add-counts : goal.overflow-add-counts
-overflow-add-counts c =
+pub overflow_add-counts : goal.overflow_add-counts
+overflow_add-counts c =
     let ls = c.args.links.now in
     let i = c.loop-link.link-index in
     let child = (link_at ls i).child in

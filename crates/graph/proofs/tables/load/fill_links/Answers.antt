@@ -14,7 +14,7 @@ loop-i-preserved c =
     let i = c.loop-i.i in
     let more = ap (λ (rs : List LinkRecord). map link_from rs) (map-range_with_len_more f 0 i i (omega arith)) ∙ map_push link_from (map f (range_with_len 0 i)) (f i) in
     let is = c.link.ensures ∙ ap link_from c.record.ensures in
-    (c.push-reserved.ensures.items ∙ (ap (λ (ls : List Link). ls ++ c.link.result ∷ []) c.loop-i.invariant.0 ∙ (ap (λ (l : Link). map link_from (map f (range_with_len 0 i)) ++ l ∷ []) is ∙ sym more)), omega arith, c.push-reserved.ensures.capacity ∙ c.loop-i.invariant.2)
+    (c.push_reserved.ensures.items ∙ (ap (λ (ls : List Link). ls ++ c.link.result ∷ []) c.loop-i.invariant.0 ∙ (ap (λ (l : Link). map link_from (map f (range_with_len 0 i)) ++ l ∷ []) is ∙ sym more)), omega arith, c.push_reserved.ensures.capacity ∙ c.loop-i.invariant.2)
 
 pub record-requires : goal.record-requires
 record-requires c = let w = whole c.args.file.now c.args.trailer c.requires.loadable.0 in omega arith

@@ -10,14 +10,14 @@ use Rattle.graph.proofs.tables.load.fill_vertices.Goals as goal
 pub loop-v-init : goal.loop-v-init
 loop-v-init c = (c.requires.empty.0, c.requires.empty.1, refl, refl, sym (first_none c.args.file.now c.args.trailer c.requires.loadable))
 
-pub overflow-cast-first : goal.overflow-cast-first
-overflow-cast-first c = omega (arith, c.loop-v.invariant.4, first_le c.args.file.now c.args.trailer c.loop-v.v)
+pub overflow_cast-first : goal.overflow_cast-first
+overflow_cast-first c = omega (arith, c.loop-v.invariant.4, first_le c.args.file.now c.args.trailer c.loop-v.v)
 
-pub overflow-sub-end : goal.overflow-sub-end
-overflow-sub-end c = omega (arith, first_up c.args.file.now c.args.trailer c.requires.loadable c.loop-v.v)
+pub overflow_sub-end : goal.overflow_sub-end
+overflow_sub-end c = omega (arith, first_up c.args.file.now c.args.trailer c.requires.loadable c.loop-v.v)
 
-pub overflow-add-head : goal.overflow-add-head
-overflow-add-head c =
+pub overflow_add-head : goal.overflow_add-head
+overflow_add-head c =
     let w = whole c.args.file.now c.args.trailer c.requires.loadable.0 in
     omega (arith, start_end _ _ w c.loop-v.v (omega arith))
 
@@ -30,13 +30,13 @@ loop-v-preserved c =
     let head = c.loop-v.invariant.3 in
     let first = c.loop-v.invariant.4 in
     let len = c.length-len.ensures in
-    let end = c.records-end-end.ensures in
-    let r : Vertex = record { head = c.loop-v.head; len = c.length-len.result; first_link = c.loop-v.first; link_count = c.records-end-end.result - c.loop-v.first } in
+    let end = c.records_end-end.ensures in
+    let r : Vertex = record { head = c.loop-v.head; len = c.length-len.result; first_link = c.loop-v.first; link_count = c.records_end-end.result - c.loop-v.first } in
     let is : r ≡ f v = cc in (
-      c.push-reserved.ensures.items
+      c.push_reserved.ensures.items
           ∙ (ap (λ (rs : List Vertex). rs ++ r ∷ []) c.loop-v.invariant.0 ∙ (ap (λ (x : Vertex). map f (range_with_len 0 v) ++ x ∷ []) is ∙ sym (map-range_with_len_more f 0 v v (omega arith)))),
       omega arith,
-      c.push-reserved.ensures.capacity ∙ c.loop-v.invariant.2,
+      c.push_reserved.ensures.capacity ∙ c.loop-v.invariant.2,
       omega (arith, start_more file t v (omega arith)),
       end,
     )
