@@ -13,19 +13,19 @@ later n k i s = onward Some at_end (times (n - (i + 1)) (times k nullable) s)
 pub loop-k-init : goal.loop-k-init
 loop-k-init c =
     let n = c.args.count in
-    let k = c.args.class-count in
+    let k = c.args.class_count in
     let i = c.loop-i.i in
     simp sub-zero (sym (times_open Some at_end (times k nullable) (n - i) (n - (i + 1)) (rest c.loop-i.cursor) (omega arith)) ∙ c.loop-i.invariant)
 
-pub returns-in-err-nullable : goal.returns-in-err-nullable
-returns-in-err-nullable c =
-    let p = err_from_is_err_and c.from-residual-in-err-nullable.result c.from-residual-in-err-nullable.ensures.1 in
-    let k = c.args.class-count in
-    let e = times_stop Some (later c.args.count k c.loop-i.i) nullable (k - c.loop-k.k) (k - (c.loop-k.k + 1)) (rest c.loop-k.cursor) (omega arith) _ c.in-err-nullable.ensures in
+pub returns-in_err-nullable : goal.returns-in_err-nullable
+returns-in_err-nullable c =
+    let p = err_from_is_err_and c.from_residual-in_err-nullable.result c.from_residual-in_err-nullable.ensures.1 in
+    let k = c.args.class_count in
+    let e = times_stop Some (later c.args.count k c.loop-i.i) nullable (k - c.loop-k.k) (k - (c.loop-k.k + 1)) (rest c.loop-k.cursor) (omega arith) _ c.in_err-nullable.ensures in
     rw (p.1, p.2) (sym c.loop-k.invariant ∙ e)
 
 pub loop-k-preserved : goal.loop-k-preserved
 loop-k-preserved c =
-    let h = c.in-ok-nullable.ensures in
-    let k = c.args.class-count in
+    let h = c.in_ok-nullable.ensures in
+    let k = c.args.class_count in
     sym (times_step Some (later c.args.count k c.loop-i.i) nullable (k - c.loop-k.k) (k - (c.loop-k.k + 1)) (rest c.loop-k.cursor) (omega arith) _ _ h.0) ∙ c.loop-k.invariant

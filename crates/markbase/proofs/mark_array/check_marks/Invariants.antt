@@ -7,4 +7,4 @@ use Rattle.markbase.proofs.Repeats.{onward, at_end}
 use Rattle.markbase.proofs.mark_array.check_marks.Given as goal
 
 abbrev pub invariant-loop-i : goal.invariant-loop-i
-invariant-loop-i l = onward Some at_end (times (l.count - l.i) (mark l.class-count) (rest l.cursor)) ≡ fault_of (read (mark_array_reader l.count l.class-count) (node_of l.vertex))
+invariant-loop-i l = onward Some at_end (times (l.count - l.i) (mark l.class_count) (rest l.cursor)) ≡ fault_of (read (mark_array_reader l.count l.class_count) (node_of l.vertex))

@@ -16,11 +16,11 @@ loop-index-preserved c =
     let nodes = (view c.args.graph.now).nodes in
     let roots = c.args.roots.now in
     let i = c.loop-index.index in
-    let more = grown nodes roots i c.add-root-size.result c.add-root-size.new.visited c.loop-index-test.true (c.add-root-size.ensures (take i roots) c.loop-index.invariant.1) in (
-      below_more _ _ c.loop-index.invariant.0 (omega (arith, c.if-v-vertex-count.false, c.vertex-count.ensures.value)),
+    let more = grown nodes roots i c.add_root-size.result c.add_root-size.new.visited c.loop-index-test.true (c.add_root-size.ensures (take i roots) c.loop-index.invariant.1) in (
+      below_more _ _ c.loop-index.invariant.0 (omega (arith, c.if-v-vertex_count.false, c.vertex_count.ensures.value)),
       more.0,
       omega (arith, more.1, c.loop-index.invariant.2),
-      omega (arith, c.loop-index.invariant.3, c.add-root-size.auto.visited),
+      omega (arith, c.loop-index.invariant.3, c.add_root-size.auto.visited),
     )
 
 pub returns : goal.returns

@@ -18,8 +18,8 @@ returns-then-visited-v t c =
 pub loop-link-init : goal.loop-link-init
 loop-link-init t c = (nowhere (λ r s. absurd (sent_none (links_at (view c.args.graph.now).nodes c.args.v) r s)), refl)
 
-pub find-subgraph-size-size-requires : goal.find-subgraph-size-size-requires
-find-subgraph-size-size-requires t c =
+pub find_subgraph_size-size-requires : goal.find_subgraph_size-size-requires
+find_subgraph_size-size-requires t c =
     let nodes = (view c.args.graph.now).nodes in
     let links = c.links-link-items.ensures.value in
     let here : c.args.v < length c.args.visited.now = omega arith in
@@ -34,26 +34,26 @@ find-subgraph-size-size-requires t c =
       ),
     )
 
-pub overflow-add-size : goal.overflow-add-size
-overflow-add-size t c =
+pub overflow_add-size : goal.overflow_add-size
+overflow_add-size t c =
     let nodes = (view c.args.graph.now).nodes in
     let here : c.args.v < length c.args.visited.now = omega arith in
     omega (
       arith,
       c.loop-link.invariant.1,
-      c.find-subgraph-size-size.ensures.size,
-      ap length c.vertex-data-size.ensures,
+      c.find_subgraph_size-size.ensures.size,
+      ap length c.vertex_data-size.ensures,
       size_set nodes c.args.visited.now c.args.v c.requires.vertex here c.if-visited-v.false,
-      size_small c.args.graph.now c.find-subgraph-size-size.new.visited,
+      size_small c.args.graph.now c.find_subgraph_size-size.new.visited,
     )
 
 pub loop-link-preserved : goal.loop-link-preserved
 loop-link-preserved t c =
     let nodes = (view c.args.graph.now).nodes in
     let one =
-    subst (λ (ls : List Link). Swept nodes c.loop-link.visited (Only (link_at ls c.loop-link.link-index).child) c.find-subgraph-size-size.new.visited)
-    c.links-link-items.ensures.value (swept c.find-subgraph-size-size.ensures.marks) in
-    (sent_more (links_at nodes c.args.v) c.loop-link.link-index c.loop-link.invariant.0 one, omega (arith, c.loop-link.invariant.1, c.find-subgraph-size-size.ensures.size))
+    subst (λ (ls : List Link). Swept nodes c.loop-link.visited (Only (link_at ls c.loop-link.link-index).child) c.find_subgraph_size-size.new.visited)
+    c.links-link-items.ensures.value (swept c.find_subgraph_size-size.ensures.marks) in
+    (sent_more (links_at nodes c.args.v) c.loop-link.link-index c.loop-link.invariant.0 one, omega (arith, c.loop-link.invariant.1, c.find_subgraph_size-size.ensures.size))
 
 pub returns : goal.returns
 returns t c =
@@ -66,5 +66,5 @@ returns t c =
     record {
       marks = spreads s;
       closed = adds c.args.v s;
-      size = omega (arith, c.loop-link.invariant.1, ap length c.vertex-data-size.ensures, size_set nodes c.args.visited.now c.args.v c.requires.vertex here c.if-visited-v.false);
+      size = omega (arith, c.loop-link.invariant.1, ap length c.vertex_data-size.ensures, size_set nodes c.args.visited.now c.args.v c.requires.vertex here c.if-visited-v.false);
     }

@@ -6,8 +6,8 @@ use Rattle.walk.proofs.Marking.{unmarked}
 use Rattle.walk.proofs.Spread.{Swept, Sent}
 use Rattle.walk.proofs.subgraph.+find_subgraph_size.Given as goal
 
-abbrev pub decreases-find-subgraph-size : goal.decreases-find-subgraph-size
-decreases-find-subgraph-size l = unmarked l.visited.now
+abbrev pub decreases-find_subgraph_size : goal.decreases-find_subgraph_size
+decreases-find_subgraph_size l = unmarked l.visited.now
 
 abbrev pub invariant-loop-link : goal.invariant-loop-link
 invariant-loop-link l =

@@ -10,6 +10,6 @@ pub returns-in-9 : goal.returns-in-9
 unfolding type_from
 returns-in-9 c = search rules
 
-pub returns-in-default : goal.returns-in-default
+pub returns-in_default : goal.returns-in_default
 unfolding type_from
-returns-in-default c = search rules
+returns-in_default c = search rules

@@ -5,5 +5,5 @@ use Rattle.markbase.proofs.mark_array.MarkArray.read.Goals as goal
 pub returns : goal.returns
 unfolding marks_of
 returns c =
-    let e = fault_none _ c.in-ok-check-marks.ensures in
+    let e = fault_none _ c.in_ok-check_marks.ensures in
     (e, record { ascending = c.requires; marks = e })
