@@ -34,7 +34,7 @@ returns-then-start-reach-2 g c =
     record {
       points = (
         subst (λ (cs : Classes). LowestExceeds cs.size c.args.reach cs.count c.loop-class.class) c.start.ensures.same (record { within = omega arith; exceeds = omega (arith, begun.size); lowest = each_fits s.0 }),
-        c.clear-split-points.ensures ∙ growing_cleared s.0 c.requires.clear (omega arith),
+        c.clear_split_points.ensures ∙ growing_cleared s.0 c.requires.clear (omega arith),
       );
       ready = begun.ready;
       same = begun.same ∙ same ∙ c.start.ensures.same;

@@ -3,8 +3,8 @@ use Rattle.cuttingtests.specs.Shared.{Run}
 use Rattle.cuttingtests.proofs.Running.{run_none, run_more}
 use Rattle.cuttingtests.proofs.SharedSizing.start.Goals as goal
 
-pub overflow-add-self : goal.overflow-add-self
-overflow-add-self c = omega (arith, c.taken.ensures.small)
+pub overflow_add-self : goal.overflow_add-self
+overflow_add-self c = omega (arith, c.taken.ensures.small)
 
 pub returns : goal.returns
 returns c =

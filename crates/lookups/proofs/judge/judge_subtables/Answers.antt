@@ -9,13 +9,13 @@ use Rattle.lookups.proofs.Offsets.{offsets_count}
 use Rattle.lookups.proofs.Judged.{wrong_next}
 use Rattle.lookups.proofs.judge.judge_subtables.Goals as goal
 
-pub returns-in-err-judge-subtable : goal.returns-in-err-judge-subtable
-returns-in-err-judge-subtable c =
+pub returns-in_err-judge_subtable : goal.returns-in_err-judge_subtable
+returns-in_err-judge_subtable c =
     let l = c.args.lookup.now in
-    let p = err_from_is_err_and c.from-residual.result c.from-residual.ensures.1 in
+    let p = err_from_is_err_and c.from_residual.result c.from_residual.ensures.1 in
     let h = c.head-head.ensures in
     let n = offsets_count l c.requires.stands in
-    let e = wrong_next (view c.args.graph.now).nodes l.head.kind _ (offsets_of l) c.loop-i.i _ _ _ (omega (arith, n, ap (λ (x : LookupHead). x.count) h)) c.from.ensures (ap (λ (x : LookupHead). x.kind) h) c.subtable.ensures c.in-err-judge-subtable.ensures in
+    let e = wrong_next (view c.args.graph.now).nodes l.head.kind _ (offsets_of l) c.loop-i.i _ _ _ (omega (arith, n, ap (λ (x : LookupHead). x.count) h)) c.from.ensures (ap (λ (x : LookupHead). x.kind) h) c.subtable.ensures c.in_err-judge_subtable.ensures in
     rw (p.1, p.2) (sym c.loop-i.invariant ∙ e)
 
 pub loop-i-preserved : goal.loop-i-preserved
@@ -23,7 +23,7 @@ loop-i-preserved c =
     let l = c.args.lookup.now in
     let h = c.head-head.ensures in
     let n = offsets_count l c.requires.stands in
-    sym (wrong_next (view c.args.graph.now).nodes l.head.kind _ (offsets_of l) c.loop-i.i _ _ _ (omega (arith, n, ap (λ (x : LookupHead). x.count) h)) c.from.ensures (ap (λ (x : LookupHead). x.kind) h) c.subtable.ensures c.in-ok-judge-subtable.ensures)
+    sym (wrong_next (view c.args.graph.now).nodes l.head.kind _ (offsets_of l) c.loop-i.i _ _ _ (omega (arith, n, ap (λ (x : LookupHead). x.count) h)) c.from.ensures (ap (λ (x : LookupHead). x.kind) h) c.subtable.ensures c.in_ok-judge_subtable.ensures)
     ∙ c.loop-i.invariant
 
 pub returns : goal.returns

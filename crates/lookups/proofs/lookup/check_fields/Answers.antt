@@ -11,22 +11,22 @@ use Rattle.lookups.proofs.lookup.check_fields.Goals as goal
 
 pub loop-i-init : goal.loop-i-init
 loop-i-init c =
-    let word = c.in-ok-word.ensures in
-    let flag = c.in-ok-flag.ensures in
-    let count = c.in-ok-count.ensures in
+    let word = c.in_ok-word.ensures in
+    let flag = c.in_ok-flag.ensures in
+    let count = c.in_ok-count.ensures in
     simp sub-zero (sym (lookup_opens (node_of c.args.vertex) _ _ _ _ _ _ _ _ c.new-cursor.ensures word.0 (sym c.in-Some.ensures) flag.0 count.0))
 
-pub returns-in-err-offset : goal.returns-in-err-offset
-returns-in-err-offset c =
-    let p = err_from_is_err_and c.from-residual-in-err-offset.result c.from-residual-in-err-offset.ensures.1 in
-    let n = c.in-ok-count.count.value in
-    let tail = tail_of c.in-Some.kind c.in-ok-flag.flag.value n in
-    let e = times_stop Err tail (offset Two) (n - c.loop-i.i) (n - (c.loop-i.i + 1)) (rest c.loop-i.cursor) (omega arith) _ c.in-err-offset.ensures in
+pub returns-in_err-offset : goal.returns-in_err-offset
+returns-in_err-offset c =
+    let p = err_from_is_err_and c.from_residual-in_err-offset.result c.from_residual-in_err-offset.ensures.1 in
+    let n = c.in_ok-count.count.value in
+    let tail = tail_of c.in-Some.kind c.in_ok-flag.flag.value n in
+    let e = times_stop Err tail (offset Two) (n - c.loop-i.i) (n - (c.loop-i.i + 1)) (rest c.loop-i.cursor) (omega arith) _ c.in_err-offset.ensures in
     rw (p.1, p.2) (sym c.loop-i.invariant ∙ e)
 
 pub loop-i-preserved : goal.loop-i-preserved
 loop-i-preserved c =
-    let h = c.in-ok-offset.ensures in
-    let n = c.in-ok-count.count.value in
-    let tail = tail_of c.in-Some.kind c.in-ok-flag.flag.value n in
+    let h = c.in_ok-offset.ensures in
+    let n = c.in_ok-count.count.value in
+    let tail = tail_of c.in-Some.kind c.in_ok-flag.flag.value n in
     sym (times_step Err tail (offset Two) (n - c.loop-i.i) (n - (c.loop-i.i + 1)) (rest c.loop-i.cursor) (omega arith) _ _ h.0) ∙ c.loop-i.invariant

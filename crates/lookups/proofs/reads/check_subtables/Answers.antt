@@ -9,14 +9,14 @@ use Rattle.lookups.proofs.Offsets.{offsets_count}
 use Rattle.lookups.proofs.Walks.{fault_of, no_fault, a_fault, same_read, goes_on, stops}
 use Rattle.lookups.proofs.reads.check_subtables.Goals as goal
 
-pub returns-in-err-in-subtable : goal.returns-in-err-in-subtable
-returns-in-err-in-subtable c =
+pub returns-in_err-in_subtable : goal.returns-in_err-in_subtable
+returns-in_err-in_subtable c =
     let l = c.args.lookup.now in
     let nodes = (view c.args.graph.now).nodes in
-    let p = err_from_is_err_and c.from-residual.result c.from-residual.ensures.1 in
+    let p = err_from_is_err_and c.from_residual.result c.from_residual.ensures.1 in
     let lt : c.loop-i.i < length (offsets_of l) = omega (arith, offsets_count l c.requires, ap (λ (h : LookupHead). h.count) c.head-head.ensures) in
-    let read = same_read nodes c.head-head.result l.head c.subtable.result _ c.read-subtable.result c.read-subtable.ensures c.head-head.ensures c.subtable.ensures in
-    let e = stops nodes l.head.kind (offsets_of l) c.loop-i.i lt c.read-subtable.result read _ c.in-err-in-subtable.ensures in
+    let read = same_read nodes c.head-head.result l.head c.subtable.result _ c.read_subtable.result c.read_subtable.ensures c.head-head.ensures c.subtable.ensures in
+    let e = stops nodes l.head.kind (offsets_of l) c.loop-i.i lt c.read_subtable.result read _ c.in_err-in_subtable.ensures in
     rw (p.1, p.2) (a_fault (subtables_from nodes l.head.kind 0 (offsets_of l)) _ (sym c.loop-i.invariant ∙ e))
 
 pub loop-i-preserved : goal.loop-i-preserved
@@ -24,8 +24,8 @@ loop-i-preserved c =
     let l = c.args.lookup.now in
     let nodes = (view c.args.graph.now).nodes in
     let lt : c.loop-i.i < length (offsets_of l) = omega (arith, offsets_count l c.requires, ap (λ (h : LookupHead). h.count) c.head-head.ensures) in
-    let read = same_read nodes c.head-head.result l.head c.subtable.result _ c.read-subtable.result c.read-subtable.ensures c.head-head.ensures c.subtable.ensures in
-    sym (goes_on nodes l.head.kind (offsets_of l) c.loop-i.i lt c.read-subtable.result read _ c.in-ok-in-subtable.ensures) ∙ c.loop-i.invariant
+    let read = same_read nodes c.head-head.result l.head c.subtable.result _ c.read_subtable.result c.read_subtable.ensures c.head-head.ensures c.subtable.ensures in
+    sym (goes_on nodes l.head.kind (offsets_of l) c.loop-i.i lt c.read_subtable.result read _ c.in_ok-in_subtable.ensures) ∙ c.loop-i.invariant
 
 pub returns : goal.returns
 returns c =

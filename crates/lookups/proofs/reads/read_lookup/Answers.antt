@@ -5,16 +5,16 @@ use Rattle.lookups.specs.Values.{valued}
 use Rattle.lookups.proofs.Offsets.{fields_of, lookup_is, valued_ok}
 use Rattle.lookups.proofs.reads.read_lookup.Goals as goal
 
-pub returns-in-err-check-subtables : goal.returns-in-err-check-subtables
-returns-in-err-check-subtables c =
-    let p = err_from_is_err_and c.from-residual-in-err-check-subtables.result c.from-residual-in-err-check-subtables.ensures.1 in
-    let read = c.in-ok-lookup.ensures in
-    let is = lookup_is (view c.args.graph.now).nodes c.args.v c.in-ok-lookup.lookup (read.0 ∙ c.from-graph.ensures.node) read.1 in
-    rw (p.1, p.2) (is ∙ ap (valued (fields_of c.in-ok-lookup.lookup read.1).fields) c.in-err-check-subtables.ensures)
+pub returns-in_err-check_subtables : goal.returns-in_err-check_subtables
+returns-in_err-check_subtables c =
+    let p = err_from_is_err_and c.from_residual-in_err-check_subtables.result c.from_residual-in_err-check_subtables.ensures.1 in
+    let read = c.in_ok-lookup.ensures in
+    let is = lookup_is (view c.args.graph.now).nodes c.args.v c.in_ok-lookup.lookup (read.0 ∙ c.from_graph.ensures.node) read.1 in
+    rw (p.1, p.2) (is ∙ ap (valued (fields_of c.in_ok-lookup.lookup read.1).fields) c.in_err-check_subtables.ensures)
 
 pub returns : goal.returns
 returns c =
-    let read = c.in-ok-lookup.ensures in
-    let here = read.0 ∙ c.from-graph.ensures.node in
-    let is = lookup_is (view c.args.graph.now).nodes c.args.v c.in-ok-lookup.lookup here read.1 in
-    (ap is_ok is ∙ valued_ok (fields_of c.in-ok-lookup.lookup read.1).fields _ ∙ c.in-ok-check-subtables.ensures, here, read.1)
+    let read = c.in_ok-lookup.ensures in
+    let here = read.0 ∙ c.from_graph.ensures.node in
+    let is = lookup_is (view c.args.graph.now).nodes c.args.v c.in_ok-lookup.lookup here read.1 in
+    (ap is_ok is ∙ valued_ok (fields_of c.in_ok-lookup.lookup read.1).fields _ ∙ c.in_ok-check_subtables.ensures, here, read.1)
