@@ -2,9 +2,9 @@ use Rattle.std.proofs.Common.{rules}
 use Rattle.workspace.specs.Model.{view}
 use Rattle.workspace.proofs.state.Workspace.close.Goals as goal
 
-pub returns-then-is-none : goal.returns-then-is-none
+pub returns-then-is_none : goal.returns-then-is_none
 unfolding view
-returns-then-is-none c = search rules
+returns-then-is_none c = search rules
 
 pub returns : goal.returns
 unfolding view

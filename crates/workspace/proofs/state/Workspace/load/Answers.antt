@@ -14,28 +14,28 @@ fill-requires c =
     let w = c.args.self.now in
     let t = c.in-Some.trailer in
     record {
-      loadable = (sym c.in-Some.ensures, sym c.in-default-first-broken.ensures);
-      room = subst (λ (g : Objects). Room g.capacity t) (graph_is w) (enough (view w) t (sym c.in-default-shortage.ensures));
+      loadable = (sym c.in-Some.ensures, sym c.in_default-first_broken.ensures);
+      room = subst (λ (g : Objects). Room g.capacity t) (graph_is w) (enough (view w) t (sym c.in_default-shortage.ensures));
     }
 
-pub invariant-of-self : goal.invariant-of-self
-invariant-of-self c =
+pub invariant_of-self : goal.invariant_of-self
+invariant_of-self c =
     let w = c.args.self.now in
     let t = c.in-Some.trailer in
     let n = ap (λ (g : Objects). length g.nodes) c.fill.ensures ∙ length-map-range_with_len (node_of c.args.file.now t) 0 t.vertices in
     let lists : long_enough (objects c.fill.new.self).capacity (vec_len w.first_list) (vec_len w.second_list) (vec_len w.visited) ≡ true =
     ap (λ (g : Objects). long_enough g.capacity (vec_len w.first_list) (vec_len w.second_list) (vec_len w.visited)) c.fill.ensures
-    ∙ (sym (lists_are w) ∙ serves (view w) t (sym c.in-default-shortage.ensures)) in
-    (w.first, (w.second, (w.clear, ((λ _. lists), (refl, (omega (arith, n), tt))))))
+    ∙ (sym (lists_are w) ∙ serves (view w) t (sym c.in_default-shortage.ensures)) in
+    record { first = w.first; second = w.second; clear = w.clear; served = λ _. lists; opened = refl; kept = omega (arith, n) }
 
-pub returns-in-default : goal.returns-in-default
-returns-in-default c = record { loads = search rules; sound = sound_view _ }
+pub returns-in_default : goal.returns-in_default
+returns-in_default c = record { loads = search rules; sound = sound_view _ }
 
 pub returns-in-Some-shortage : goal.returns-in-Some-shortage
 returns-in-Some-shortage c = record { loads = search rules; sound = sound_view _ }
 
-pub returns-in-Some-first-broken : goal.returns-in-Some-first-broken
-returns-in-Some-first-broken c = record { loads = search rules; sound = sound_view _ }
+pub returns-in-Some-first_broken : goal.returns-in-Some-first_broken
+returns-in-Some-first_broken c = record { loads = search rules; sound = sound_view _ }
 
 pub returns : goal.returns
 returns c =
@@ -44,6 +44,6 @@ returns c =
     let file = c.args.file.now in
     let is = sym c.in-Some.ensures in
     record {
-      loads = (accepted (view w) file t is (sym c.in-default-shortage.ensures) (sym c.in-default-first-broken.ensures), (t, is, refl, view_loaded w _ file t c.fill.ensures refl refl refl refl refl));
+      loads = (accepted (view w) file t is (sym c.in_default-shortage.ensures) (sym c.in_default-first_broken.ensures), (t, is, refl, view_loaded w _ file t c.fill.ensures refl refl refl refl refl));
       sound = sound_view _;
     }

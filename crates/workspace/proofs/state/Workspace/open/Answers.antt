@@ -12,39 +12,39 @@ pub returns-in-Some : goal.returns-in-Some
 unfolding view
 returns-in-Some c = record { opens = (open_refused c.args.self.now c.args.vertex _ c.in-Some.is, refl); law = tt }
 
-pub returns-then-vertex-vertex-count : goal.returns-then-vertex-vertex-count
+pub returns-then-vertex-vertex_count : goal.returns-then-vertex-vertex_count
 unfolding view
-returns-then-vertex-vertex-count c =
+returns-then-vertex-vertex_count c =
     let w = c.args.self.now in
-    record { opens = (open_free w c.args.vertex c.in-default.is ∙ past_vertices (objects w.graph).nodes c.args.vertex (omega arith), refl); law = tt }
+    record { opens = (open_free w c.args.vertex c.in_default.is ∙ past_vertices (objects w.graph).nodes c.args.vertex (omega arith), refl); law = tt }
 
-pub invariant-of-self-in-Break· : goal.invariant-of-self-in-Break·
-invariant-of-self-in-Break· c =
+pub invariant_of-self-in-Break-1 : goal.invariant_of-self-in-Break-1
+invariant_of-self-in-Break-1 c =
     let w = c.args.self.now in
     let z = c.judge.ensures.zero in
     let n = all_zero _ _ z in
-    let is = with_items_is w.first_list c.judge.new.list (n.0 ∙ c.as-mut-slice.ensures.len) in
-    (subst (λ (xs : List ℕ). Zero xs) (sym is) n.1, (w.second, (w.clear, (w.served, (w.opened, (w.kept, tt))))))
+    let is = with_items_is w.first_list c.judge.new.list (n.0 ∙ c.as_mut_slice.ensures.len) in
+    record { first = subst (λ (xs : List ℕ). Zero xs) (sym is) n.1; second = w.second; clear = w.clear; served = w.served; opened = w.opened; kept = w.kept }
 
-pub returns-in-err-count : goal.returns-in-err-count
+pub returns-in_err-count : goal.returns-in_err-count
 unfolding view
-returns-in-err-count c =
+returns-in_err-count c =
     let w = c.args.self.now in
-    let p = err_from_is_err_and c.from-residual.result c.from-residual.ensures.1 in
-    rw (p.1, p.2) (record { opens = (open_free w c.args.vertex c.in-default.is ∙ c.in-err-count.ensures.judged, refl); law = tt })
+    let p = err_from_is_err_and c.from_residual.result c.from_residual.ensures.1 in
+    rw (p.1, p.2) (record { opens = (open_free w c.args.vertex c.in_default.is ∙ c.in_err-count.ensures.judged, refl); law = tt })
 
-pub invariant-of-self-2 : goal.invariant-of-self-2
-invariant-of-self-2 c =
+pub invariant_of-self-2 : goal.invariant_of-self-2
+invariant_of-self-2 c =
     let w = c.args.self.now in
     let z = c.judge.ensures.zero in
     let n = all_zero _ _ z in
-    let is = with_items_is w.first_list c.judge.new.list (n.0 ∙ c.as-mut-slice.ensures.len) in
-    let j = c.in-ok-count.ensures.judged in
-    (subst (λ (xs : List ℕ). Zero xs) (sym is) n.1, (w.second, (w.clear, (w.served, (opens_well (objects w.graph).nodes c.args.vertex j.0, (w.kept, tt))))))
+    let is = with_items_is w.first_list c.judge.new.list (n.0 ∙ c.as_mut_slice.ensures.len) in
+    let j = c.in_ok-count.ensures.judged in
+    record { first = subst (λ (xs : List ℕ). Zero xs) (sym is) n.1; second = w.second; clear = w.clear; served = w.served; opened = opens_well (objects w.graph).nodes c.args.vertex j.0; kept = w.kept }
 
 pub returns : goal.returns
 unfolding view
 returns c =
     let w = c.args.self.now in
-    let j = c.in-ok-count.ensures.judged in
-    record { opens = (open_free w c.args.vertex c.in-default.is ∙ j.0, j.1, refl); law = keeps _ c.args.vertex refl }
+    let j = c.in_ok-count.ensures.judged in
+    record { opens = (open_free w c.args.vertex c.in_default.is ∙ j.0, j.1, refl); law = keeps _ c.args.vertex refl }

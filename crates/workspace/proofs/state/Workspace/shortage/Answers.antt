@@ -22,8 +22,8 @@ returns-then-trailer-capacity-3 c =
     let r = read c.args.self.now _ c.capacity-capacity.ensures.value in
     grind (arith, nat_tests, ap (λ x. x.vertices) r, ap (λ x. x.links) r, ap (λ x. x.bytes) r)
 
-pub returns-then-not-lists-serve : goal.returns-then-not-lists-serve
-returns-then-not-lists-serve c =
+pub returns-then-not-lists_serve : goal.returns-then-not-lists_serve
+returns-then-not-lists_serve c =
     let r = read c.args.self.now _ c.capacity-capacity.ensures.value in
     grind (arith, nat_tests, ap (λ x. x.vertices) r, ap (λ x. x.links) r, ap (λ x. x.bytes) r)
 
