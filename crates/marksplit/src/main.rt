@@ -5,6 +5,7 @@ use anyhow::anyhow;
 use lines::refused_line;
 use session::{LONGEST_FILE, answer, load_file, new_workspace};
 use std::io::{BufRead, BufReader, Read, Write};
+use std::process::ExitCode;
 use std::{fs, io};
 use workspace::state::Workspace;
 
@@ -43,10 +44,12 @@ fn run(rt: &HostRuntime) -> anyhow::Result<()> {
     }
 }
 
-fn main(rt: HostRuntime) -> anyhow::Result<()> {
-    let result = run(&rt);
-    if let Err(error) = &result {
-        eprintln!(rt; "marksplit: {error}")?;
+fn main(rt: HostRuntime) -> ExitCode {
+    match run(&rt) {
+        Ok(()) => ExitCode::SUCCESS,
+        Err(error) => {
+            let _ = eprintln!(rt; "marksplit: {error}");
+            ExitCode::FAILURE
+        }
     }
-    result
 }
