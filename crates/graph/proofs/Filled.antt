@@ -1,6 +1,5 @@
 -- The tables of a file that can be loaded have the properties of every graph, and stand for its objects.
-use Rattle.std.proofs.Common.{◌≡◌, ℕ, zero, suc, ◌+◌, ◌-◌, ◌<◌, ◌≤◌, Bool, true, false, eqb, ltb, leb, ◌⊎◌, List, [], map, length, get_or, take, drop, is_some, sum, filter, unwrap_or, sym, refl, ap, ◌∙◌, subst, inl, inr, add-one, arith}
-use Rattle.std.specs.List.{range_with_len}
+use Rattle.std.proofs.Common.{◌≡◌, ℕ, zero, suc, ◌+◌, ◌-◌, ◌<◌, ◌≤◌, true, ltb, leb, List, map, length, take, drop, is_some, sum, unwrap_or, sym, ap, ◌∙◌, subst, inl, inr, add-one, arith}
 use Rattle.std.proofs.lemmas.List.{length-map, length-take-le, get_or-map, get_or-take, get_or-drop, take-take, take_all, take-map, drop-map, drop-take, drop-drop, ext_get_or}
 use Rattle.std.proofs.lemmas.List.Sums.{sum_by_more, sum_by-take-le}
 use Rattle.std.proofs.lemmas.List.FromFn.{length-map-range_with_len, get_or-map-range_with_len}
@@ -12,10 +11,10 @@ use Rattle.graph.specs.declared.vertex.Vertex.{Vertex}
 use Rattle.serialize.specs.declared.object_file.Trailer.{Trailer}
 use Rattle.serialize.specs.declared.object_file.LinkRecord.{LinkRecord}
 use Rattle.serialize.specs.Width.{width_of, width_from}
-use Rattle.serialize.specs.Objects.{Node, no_node, part, zeros, no_link, link_at, end_of, field_of}
+use Rattle.serialize.specs.Objects.{no_node, part, zeros, no_link, link_at, end_of, field_of}
 use Rattle.serialize.specs.ObjectFile.{length_at, lengths_of, start_at, record_at, records_of, sound_alone, link_from, node_of, nodes_of}
 use Rattle.graph.specs.Filling.{Loadable, first_of, row_at, rows_of, links_of}
-use Rattle.graph.specs.Sound.{no_vertex, vertex_at, segment, area, counts, link_total, Below, Owns, Apart, Placed, Ordered, Inside, Blank}
+use Rattle.graph.specs.Sound.{no_vertex, vertex_at, segment, area, counts, link_total, Below, Apart, Placed, Ordered, Inside, Blank}
 use Rattle.graph.specs.Model.{node}
 use Rattle.serialize.proofs.Files.{Whole, whole, start_more, start_end}
 use Rattle.serialize.proofs.Order.{in_order, follows_out}

@@ -2,7 +2,7 @@
 use Rattle.std.proofs.Common.{◌≡◌, ℕ, suc, ◌+◌, ◌-◌, ◌<◌, ◌≤◌, cond, eqb, leb, List, [], ◌∷◌, length, drop, Some, Ok, Err, sym, refl, ap, ◌∙◌, ⊎_elim, arith, length-drop}
 use Rattle.std.proofs.lemmas.List.{drop-drop}
 use Rattle.std.proofs.lemmas.Bool.{cases_eq, le-leb, lt-leb, eq-eqb, ne_eqb}
-use Rattle.layout.specs.Format.{Read, field, allowed, also, end, run, glyphs, ranges, read_coverage}
+use Rattle.layout.specs.Format.{Read, field, allowed, also, run, glyphs, ranges, read_coverage}
 use Rattle.layout.specs.Records.{fault_of, front, RangeAt}
 
 pub fault_also : (gs : List ℕ) (r : Read) → fault_of (also gs r) ≡ fault_of r

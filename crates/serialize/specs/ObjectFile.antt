@@ -1,9 +1,8 @@
 -- Object files, from the format: bytes in number order, lengths, link records, a trailer; all numbers of four bytes.
-use Rattle.std.specs.Prelude.{ℕ, zero, suc, ◌+◌, ◌-◌, ◌*◌, Bool, true, false, cond, ◌&&◌, ◌||◌, List, map, length, take, is_some, Some, None, sum, filter, Option, ◌==◌, nat_eq, nat_le, nat_lt, slice_index}
+use Rattle.std.specs.Prelude.{ℕ, zero, suc, ◌+◌, ◌-◌, ◌*◌, Bool, true, cond, ◌&&◌, ◌||◌, List, map, length, take, is_some, Some, None, sum, filter, Option, ◌==◌, nat_eq, nat_le, nat_lt, slice_index}
 use Rattle.std.specs.List.{range_with_len}
 use Rattle.std.specs.Option.{unwrap_or}
 use Rattle.serialize.specs.declared.link.Link.{Link}
-use Rattle.serialize.specs.declared.link.LinkWidth.{LinkWidth}
 use Rattle.serialize.specs.declared.link.LinkWidth.TheVariants.{Two}
 use Rattle.serialize.specs.declared.object_file.Trailer.{Trailer}
 use Rattle.serialize.specs.declared.object_file.LinkRecord.{LinkRecord}

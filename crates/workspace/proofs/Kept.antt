@@ -1,15 +1,14 @@
 -- While a lookup is open, no history changes the model.
-use Rattle.std.proofs.Common.{◌≡◌, ℕ, true, false, List, [], ◌∷◌, Some, None, Ok, Err, Option, Result, sym, refl, ap, ◌∙◌, subst, arith}
+use Rattle.std.proofs.Common.{◌≡◌, ℕ, false, List, [], ◌∷◌, Some, None, Ok, Err, Option, Result, sym, refl, ap, ◌∙◌, subst, arith}
 use Rattle.std.specs.List.{AllByRecursion as All}
 use Rattle.refusal.specs.declared.Refusal.{Refusal}
 use Rattle.refusal.specs.declared.Refusal.TheVariants.{LookupOpen}
 use Rattle.serialize.specs.Objects.{Node}
-use Rattle.markbase.specs.declared.hits.Hit.{Hit}
 use Rattle.workspace.specs.Model.{Model}
 use Rattle.workspace.specs.Rest.{wrong_at}
-use Rattle.workspace.specs.Opening.{Opens, open_refusal, with_lookup}
+use Rattle.workspace.specs.Opening.{Opens, open_refusal}
 use Rattle.workspace.specs.Attaching.{hits_of}
-use Rattle.workspace.specs.Histories.{Line, Step, ends, History, SameAnchor, SameHit, SamePair, Keeps, OpenKeeps}
+use Rattle.workspace.specs.Histories.{Line, Step, ends, History, SameAnchor, SameHit, SamePair, Keeps}
 use Rattle.workspace.specs.Histories.Line.{loading, opening, closing, attaching, asking}
 use Rattle.workspace.specs.Histories.History.{start, next}
 

@@ -1,5 +1,5 @@
 -- What the caller hands in.
-use Rattle.std.specs.Prelude.{◌≡◌, ℕ, vec_len}
+use Rattle.std.specs.Prelude.{◌≡◌, vec_len}
 use Rattle.graph.specs.declared.vertex.Capacity.{Capacity}
 use Rattle.workspace.specs.declared.supply.Supply.{Supply}
 

@@ -1,6 +1,4 @@
-use Rattle.std.proofs.Common.{List, Result, sym, ap, ◌∙◌}
-use Rattle.std.specs.Option.{option_map}
-use Rattle.refusal.specs.declared.Refusal.TheVariants.{SharedPart}
+use Rattle.std.proofs.Common.{Result, ap, ◌∙◌}
 use Rattle.markbase.specs.declared.fault.PartFault.{PartFault}
 use Rattle.markbase.specs.declared.parts.TableInfo.{TableInfo}
 use Rattle.graph.specs.Model.{view}

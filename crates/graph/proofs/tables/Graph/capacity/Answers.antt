@@ -1,4 +1,4 @@
-use Rattle.std.proofs.Common.{sym, arith}
+use Rattle.std.proofs.Common.{sym}
 use Rattle.graph.proofs.Views.{capacity_is}
 use Rattle.graph.proofs.tables.Graph.capacity.Goals as goal
 

@@ -1,4 +1,4 @@
-use Rattle.std.proofs.Common.{◌≡◌, ◌≤◌, map, vec_items, vec_len, vec_capacity}
+use Rattle.std.proofs.Common.{◌≡◌, map, vec_items, vec_len, vec_capacity}
 use Rattle.std.specs.List.{range_with_len}
 use Rattle.serialize.specs.ObjectFile.{start_at}
 use Rattle.graph.specs.Filling.{first_of, row_at}

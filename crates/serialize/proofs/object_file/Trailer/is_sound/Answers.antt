@@ -1,4 +1,4 @@
-use Rattle.std.proofs.Common.{◌≡◌, ℕ, ◌+◌, ◌-◌, ap, ◌∙◌, arith, rules}
+use Rattle.std.proofs.Common.{◌≡◌, ℕ, ◌+◌, ◌-◌, ap, ◌∙◌, arith}
 use Rattle.serialize.specs.Objects.{part, zeros}
 use Rattle.serialize.specs.ObjectFile.{start_at}
 use Rattle.std.proofs.lemmas.Bool.Decides.{nat_tests}

@@ -1,4 +1,4 @@
-use Rattle.std.proofs.Common.{sym, ap, ◌∙◌, arith}
+use Rattle.std.proofs.Common.{arith}
 use Rattle.serialize.proofs.Files.{start_more}
 use Rattle.serialize.proofs.object_file.Trailer.start_of.Goals as goal
 
