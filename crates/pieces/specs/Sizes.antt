@@ -1,5 +1,5 @@
 -- The size of a run of classes is that of the piece which it makes.
-use Rattle.std.specs.Prelude.{◌≡◌, ℕ, ◌+◌, ◌-◌, ◌*◌, ◌<◌, ◌≤◌, ◌⊎◌, List, length, Some, None, count_by, Option, slice_index_or}
+use Rattle.std.specs.Prelude.{◌≡◌, ℕ, ◌+◌, ◌-◌, ◌*◌, ◌<◌, ◌≤◌, ◌⊎◌, List, length, None, count_by, Option, slice_index_or}
 use Rattle.std.specs.List.{ContainsAt as Has}
 use Rattle.serialize.specs.Objects.{Node, node_at, SoundObjects}
 use Rattle.walk.specs.Reach.{Reached}

@@ -5,7 +5,7 @@ use Rattle.std.proofs.lemmas.List.{append_assoc}
 use Rattle.serialize.specs.Objects.{Node}
 use Rattle.markbase.specs.Values.{Subtable}
 use Rattle.splitting.specs.Vertices.{own_vertices}
-use Rattle.splitting.proofs.Members.{In, Distinct, in_left, in_right, in_either, all_in, joined_in, distinct_append}
+use Rattle.splitting.proofs.Members.{In, Distinct, in_left, in_right, all_in, joined_in, distinct_append}
 use Rattle.splitting.proofs.Owned.{own, Owned}
 use Rattle.splitting.proofs.Holding.{four_of, four_own}
 

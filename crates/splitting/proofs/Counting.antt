@@ -1,16 +1,16 @@
 -- How many links there are after a cut.
-use Rattle.std.proofs.Common.{◌≡◌, ℕ, ◌+◌, ◌*◌, ◌<◌, ◌≤◌, Bool, true, false, cond, List, [], ◌∷◌, ◌++◌, map, length, set, Some, None, sum_by, count_by, Option, sym, refl, ap, ◌∙◌, subst, inl, inr, arith}
+use Rattle.std.proofs.Common.{◌≡◌, ℕ, ◌+◌, ◌<◌, Bool, cond, List, [], ◌∷◌, ◌++◌, map, length, set, Some, None, sum_by, count_by, Option, sym, refl, ap, ◌∙◌, subst, inl, inr, arith}
 use Rattle.std.specs.List.{flat_map, AllByRecursion as All}
 use Rattle.std.proofs.lemmas.List.{get_or-set_other, get_or_append_left, length-set, length-append}
 use Rattle.std.proofs.lemmas.List.Sums.{sum_by-cons, sum_by-append}
 use Rattle.serialize.specs.Objects.{Node, node_at, no_node}
 use Rattle.walk.specs.Computed.{children}
 use Rattle.fields.specs.Arrays.{present}
-use Rattle.markbase.specs.Values.{Contents, Subtable}
-use Rattle.pieces.specs.Keeping.{mark_anchors, base_anchors, links, contents_of}
+use Rattle.markbase.specs.Values.{Subtable}
+use Rattle.pieces.specs.Keeping.{mark_anchors, base_anchors, links}
 use Rattle.splitting.specs.Vertices.{Meaning, subtable_vertex, coverage_vertex, marks_vertex, bases_vertex, vertices, extension_vertex, top_of, own_vertices}
 use Rattle.splitting.specs.Leaving.{kept_piece, rewritten, new_vertices}
-use Rattle.splitting.proofs.Tally.{tally, tally_set, tally_append, sum_over_map, sum_over_joined}
+use Rattle.splitting.proofs.Tally.{tally, tally_set, tally_append}
 use Rattle.splitting.proofs.Members.{Distinct}
 use Rattle.splitting.proofs.Parts.{Links}
 use Rattle.splitting.proofs.Holding.{four_of}

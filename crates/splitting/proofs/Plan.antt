@@ -1,7 +1,6 @@
 -- A plan is carried out subtable by subtable.
-use Rattle.std.proofs.Common.{◌≡◌, ℕ, zero, suc, ◌+◌, ◌*◌, ◌<◌, ◌≤◌, Bool, true, false, cond, eqb, ◌⊎◌, List, [], ◌∷◌, ◌++◌, map, length, set, sym, refl, ap, ◌∙◌, subst, inl, inr, ⊎_elim, zero-add, arith}
-use Rattle.std.specs.List.{flat_map, AllByRecursion as All}
-use Rattle.std.proofs.lemmas.List.{append_assoc, append-nil, set-set, length-set}
+use Rattle.std.proofs.Common.{◌≡◌, ℕ, suc, ◌+◌, ◌*◌, ◌<◌, List, [], ◌∷◌, ◌++◌, map, length, set, sym, refl, ap, ◌∙◌, subst, inl, inr, zero-add, arith}
+use Rattle.std.proofs.lemmas.List.{append_assoc, set-set, length-set}
 use Rattle.std.proofs.lemmas.List.Sums.{sum_by-cons}
 use Rattle.std.proofs.lemmas.Bool.{eq-eqb, ne_eqb, cond-true, cond-false, cases_eq}
 use Rattle.serialize.specs.Objects.{Node}
@@ -17,7 +16,7 @@ use Rattle.splitting.specs.Cuts.{Plan}
 use Rattle.splitting.specs.Leaving.{pieces_of, cut, cut_all, piece_vertices, subtables_left, new_count, with_subtables, fields_left, left_by}
 use Rattle.splitting.specs.Needs.{piece_links, need_of}
 use Rattle.splitting.specs.Standing.{Stands}
-use Rattle.splitting.specs.Laws.{Cuts, Becomes, CuttingStands}
+use Rattle.splitting.specs.Laws.{Cuts, CuttingStands}
 use Rattle.splitting.proofs.Journey.{Journey, stays, onward}
 use Rattle.splitting.proofs.Placing as placed
 use Rattle.splitting.proofs.Placing.{same_cut}

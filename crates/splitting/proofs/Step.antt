@@ -1,9 +1,9 @@
 -- One subtable of a lookup that stands is cut.
-use Rattle.std.proofs.Common.{◌≡◌, ℕ, suc, ◌+◌, ◌*◌, ◌<◌, ◌≤◌, Bool, true, false, cond, eqb, ◌⊎◌, List, [], ◌∷◌, ◌++◌, map, length, set, Some, None, Ok, sum_by, count_by, Option, sym, refl, ap, ◌∙◌, subst, inl, inr, ⊎_elim, arith}
-use Rattle.std.specs.List.{ContainsAt as Has, flat_map, AllByRecursion as All}
+use Rattle.std.proofs.Common.{◌≡◌, ℕ, suc, ◌+◌, ◌*◌, ◌<◌, ◌≤◌, Bool, true, eqb, ◌⊎◌, List, [], ◌∷◌, ◌++◌, map, length, set, Some, None, Ok, Option, sym, refl, ap, ◌∙◌, subst, inl, inr, arith}
+use Rattle.std.specs.List.{ContainsAt as Has, AllByRecursion as All}
 use Rattle.std.proofs.lemmas.List.{length-append, length-map}
 use Rattle.std.proofs.ByRecursion.{All-append, All-weaker, All-map, All-get_or, All-from_get_or}
-use Rattle.serialize.specs.Objects.{Node, no_node, node_at, incoming, all_links, SoundObjects}
+use Rattle.serialize.specs.Objects.{Node, no_node, node_at, incoming}
 use Rattle.cutting.specs.Cutting.{Cutting}
 use Rattle.coverage_writers.specs.Writing.{Lawful}
 use Rattle.markbase.specs.declared.lookup_type.LookupType.{LookupType}
@@ -11,7 +11,6 @@ use Rattle.markbase.specs.declared.lookup_type.LookupType.TheVariants.{MarkToBas
 use Rattle.markbase.specs.Nodes.{read}
 use Rattle.markbase.specs.Tables.{extension, coverage}
 use Rattle.markbase.specs.Values.{Contents, Subtable}
-use Rattle.markbase.specs.Parts.{subtable_of}
 use Rattle.lookups.specs.Tables.{Fields, lookup}
 use Rattle.fields.specs.Arrays.{present}
 use Rattle.written.specs.Writing.{as_lookup, vertex_of}
@@ -22,17 +21,17 @@ use Rattle.pieces.specs.Keeping.{anchors, contents_of, mark_anchors, base_anchor
 use Rattle.pieces.proofs.Keeping.{pieces_keep}
 use Rattle.pieces.proofs.Together.{runs_all}
 use Rattle.splitting.specs.Vertices.{Meaning, vertices, extension_vertex, top_of, own_vertices}
-use Rattle.splitting.specs.Leaving.{kept_piece, later_pieces, pieces_of, cut, piece_vertices, with_subtables}
+use Rattle.splitting.specs.Leaving.{kept_piece, later_pieces, cut, piece_vertices, with_subtables}
 use Rattle.splitting.specs.Needs.{piece_links}
 use Rattle.splitting.specs.Standing.{Stands}
-use Rattle.splitting.proofs.Members.{In, Distinct, in_left, in_right, in_either, in_joined, in_has, has_in, all_in, all_from_in}
+use Rattle.splitting.proofs.Members.{In, Distinct, in_joined, in_has, has_in, all_in, all_from_in}
 use Rattle.splitting.proofs.Tally.{tally, incoming_tally, links_tally, incoming_past}
 use Rattle.splitting.proofs.Parts.{Behind, Parts, Links, lookup_leads, parts_of, links_of_lem, parts_read}
 use Rattle.splitting.proofs.Owned.{own, Owned, owned}
 use Rattle.splitting.proofs.Holding.{four_of, four_own, extension_own, Holds, Extended}
 use Rattle.splitting.proofs.Journey.{From, Journey}
 use Rattle.splitting.proofs.Placing as placing
-use Rattle.splitting.proofs.Counting.{one, Kids, cut_count}
+use Rattle.splitting.proofs.Counting.{Kids, cut_count}
 use Rattle.splitting.proofs.Adding.{added, none_added, once_added, all_added, more_tops, sum_contents}
 use Rattle.splitting.proofs.Reading.{holds_parts, behind_shaped, base_glyphs_lem, parts_kept, fields_children, coverage_children, marks_children, bases_children, lookup_children, lookup_read, all_joined, vertices_sound, extensions_sound, lookup_sound}
 use Rattle.splitting.proofs.Apart.{own_here, t_here, there, others_apart, not_lookup, distinct_four, inside_own, inside_four, extension_not_four, cover_not_own, cover_inside}

@@ -1,5 +1,5 @@
 -- What holds after a lookup was cut or extended.
-use Rattle.std.specs.Prelude.{◌≡◌, ℕ, ◌+◌, ◌<◌, ◌≤◌, List, map, length, None, Ok, Option}
+use Rattle.std.specs.Prelude.{◌≡◌, ℕ, ◌+◌, ◌<◌, List, map, length, None, Ok}
 use Rattle.std.specs.List.{AllByRecursion as All}
 use Rattle.serialize.specs.Objects.{Node, node_at, all_links}
 use Rattle.cutting.specs.Cutting.{Cutting}
