@@ -6,7 +6,7 @@ ghost use Rattle.workspace.specs.Rest.{Zero, Clear, Served, openable};
 use graph::tables::Graph;
 
 mod calls;
-mod lookups;
+mod open_lookup;
 mod reads;
 
 #[derive(Drop)]

@@ -4,8 +4,8 @@ use Rattle.serialize.specs.Objects.{incoming}
 use Rattle.graph.specs.Model.{view as objects}
 use Rattle.graph.proofs.Views.{sound_objects}
 use Rattle.workspace.proofs.Opens.{counted, judged_way, no_lookup}
-use Rattle.workspace.proofs.state.lookups.judge.Goals as goal
-use Rattle.workspace.proofs.state.lookups.judge.Goals.{then-list-v-eq0, else-list-v-eq0}
+use Rattle.workspace.proofs.state.open_lookup.judge.Goals as goal
+use Rattle.workspace.proofs.state.open_lookup.judge.Goals.{then-list-v-eq0, else-list-v-eq0}
 
 pub judge_lookup-judged-requires : goal.judge_lookup-judged-requires
 judge_lookup-judged-requires c =
