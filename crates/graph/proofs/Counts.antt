@@ -1,6 +1,6 @@
 -- Counts of the links that lead to a vertex.
 use Rattle.std.proofs.Common.{◌≡◌, ℕ, suc, ◌+◌, ◌<◌, ◌≤◌, Bool, cond, eqb, List, [], ◌∷◌, length, get_or, take, set, sym, refl, ap, ◌∙◌, subst, inl, inr, arith}
-use Rattle.std.specs.List.{flat_map, AllByRecursion as All}
+use Rattle.std.specs.List.{flat_map, AllByRecursion}
 use Rattle.std.proofs.lemmas.List.{length-set, length-take-le, get_or-set_same, get_or-set_other}
 use Rattle.std.proofs.ByRecursion.{All-append, All-get_or, All-from_get_or}
 use Rattle.std.proofs.lemmas.List.Sums.{sum_by-cons, count_by_more_yes, count_by_more_no, count_by-le-length}
@@ -9,7 +9,7 @@ use Rattle.serialize.specs.declared.link.Link.{Link}
 use Rattle.serialize.specs.Objects.{Node, no_node, no_link, link_at, leading_to, all_links, SoundObjects}
 
 -- what holds of each link of each vertex holds of all links
-all_joined_of : {X Y : Type 0} (P : Y → Type 0) (f : X → List Y) (xs : List X) → All (λ x. All P (f x)) xs → All P (flat_map f xs)
+all_joined_of : {X Y : Type 0} (P : Y → Type 0) (f : X → List Y) (xs : List X) → AllByRecursion (λ x. AllByRecursion P (f x)) xs → AllByRecursion P (flat_map f xs)
 all_joined_of P f [] a = tt
 all_joined_of P f (x ∷ xs) a = All-append P (f x) (flat_map f xs) a.0 (all_joined_of P f xs a.1)
 
@@ -19,7 +19,7 @@ children_in nodes sound i h =
     let P : Link → Type 0 = λ l. l.child < length nodes in
     All-get_or P (all_links nodes) i no_link h
     (all_joined_of P (λ (x : Node). x.links) nodes
-    (All-from_get_or (λ (x : Node). All P x.links) nodes no_node (λ v k. All-from_get_or P _ no_link (λ j m. ((sound v k).1 j m).0))))
+    (All-from_get_or (λ (x : Node). AllByRecursion P x.links) nodes no_node (λ v k. All-from_get_or P _ no_link (λ j m. ((sound v k).1 j m).0))))
 
 -- one link more
 pub count_more : (ls : List Link) (counts : List ℕ) (i : ℕ) → i < length ls → ((v : ℕ) → v < length counts → get_or counts v 0 ≡ leading_to (take i ls) v)

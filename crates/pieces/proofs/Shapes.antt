@@ -1,6 +1,6 @@
 -- Pieces are formed, a piece of a piece is a piece, and the piece of all classes is the whole.
 use Rattle.std.proofs.Common.{◌≡◌, ℕ, ◌+◌, ◌-◌, ◌<◌, ◌≤◌, Bool, true, false, cond, ◌&&◌, ltb, leb, ◌⊎◌, List, [], ◌∷◌, map, length, get_or, take, drop, None, Decides, filter, Option, refl, ap, ◌∙◌, ap₂, inl, inr, arith}
-use Rattle.std.specs.List.{AllByRecursion as All}
+use Rattle.std.specs.List.{AllByRecursion}
 use Rattle.std.proofs.lemmas.Bool.{le-leb, lt-leb, lt-ltb, le-ltb, leb-true, ltb-true, and_parts, and_from, and_left, and_right, cond-true, cond-false, both_ways}
 use Rattle.std.proofs.lemmas.List.{get_or-take, get_or-drop, length-take, length-drop, drop-take, take-take, drop-drop, take_all}
 use Rattle.std.proofs.lemmas.Bool.Decides.{same_from_decides, Decides-like, Decides-ltb, nat_tests}
@@ -105,14 +105,14 @@ pieces_compose c a b x y xy yb =
     (λ m e. run_out a b x y m.class yb e) c.marks)
     (mapped_twice (row_part a b) (row_part x y) (row_part (a + x) (a + y)) (λ s. ap (λ r. record { glyph = s.glyph; row = r }) (part_part a b x y s.row xy yb)) c.bases)
 
-whole_marks : (k : ℕ) (ms : List Mark) → All (λ (m : Mark). m.class < k) ms → map (renumbered 0) (filter (in_run 0 k) ms) ≡ ms
+whole_marks : (k : ℕ) (ms : List Mark) → AllByRecursion (λ (m : Mark). m.class < k) ms → map (renumbered 0) (filter (in_run 0 k) ms) ≡ ms
 whole_marks k [] h = refl
 whole_marks k (m ∷ ms) h =
     let s : m.class - 0 ≡ m.class = omega arith in
     ap (map (renumbered 0)) (cond-true _ _ _ (in_yes 0 k m (omega arith) h.0))
     ∙ ap₂ ◌∷◌ (ap (λ n. record { glyph = m.glyph; class = n; anchor = m.anchor }) s) (whole_marks k ms h.1)
 
-whole_bases : (k : ℕ) (bs : List Base) → All (λ (s : Base). length s.row ≡ k) bs → map (row_part 0 k) bs ≡ bs
+whole_bases : (k : ℕ) (bs : List Base) → AllByRecursion (λ (s : Base). length s.row ≡ k) bs → map (row_part 0 k) bs ≡ bs
 whole_bases k [] h = refl
 whole_bases k (s ∷ bs) h = ap₂ ◌∷◌ (ap (λ r. record { glyph = s.glyph; row = r }) (take_all (k - 0) s.row (omega (arith, h.0)))) (whole_bases k bs h.1)
 

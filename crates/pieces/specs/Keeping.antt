@@ -1,6 +1,6 @@
 -- What cutting keeps.
 use Rattle.std.specs.Prelude.{◌≡◌, ℕ, ◌+◌, ◌-◌, ◌≤◌, Bool, List, ◌∷◌, ◌++◌, map, Some, sum_by, count_by, Option}
-use Rattle.std.specs.List.{ContainsAt as Has, flat_map, AllByRecursion as All}
+use Rattle.std.specs.List.{ContainsAt as Has, flat_map, AllByRecursion}
 use Rattle.cutting.specs.Cutting.{Runs, Cutting}
 use Rattle.fields.specs.Arrays.{present}
 use Rattle.markbase.specs.declared.hits.Hit.{Hit}
@@ -39,7 +39,7 @@ pub record Kept (k : ℕ) (c : Contents) (ps : List ℕ) : Type 0 where
   pub marks : (test : ℕ → Bool) → sum_by (λ (p : Contents). links test (mark_anchors p)) (pieces k c ps) ≡ links test (mark_anchors c)
   pub bases : (test : ℕ → Bool) → sum_by (λ (p : Contents). links test (base_anchors p)) (pieces k c ps) ≡ links test (base_anchors c)
   -- an anchor of a piece is an anchor of the whole
-  pub inside : All (λ p. (o : Option ℕ) → Has (anchors p) o → Has (anchors c) o) (pieces k c ps)
+  pub inside : AllByRecursion (λ p. (o : Option ℕ) → Has (anchors p) o → Has (anchors c) o) (pieces k c ps)
 
 -- whatever is held, wherever it is cut
 abbrev pub PiecesKeep : Type 0

@@ -1,6 +1,6 @@
 -- Pieces: what a subtable holds, cut by runs of its classes. The run a .. b holds the classes from a up to, and not including, b.
 use Rattle.std.specs.Prelude.{◌≡◌, ℕ, ◌-◌, ◌<◌, Bool, true, ◌&&◌, List, [], ◌∷◌, map, length, take, drop, filter, nat_le, nat_lt}
-use Rattle.std.specs.List.{AllByRecursion as All}
+use Rattle.std.specs.List.{AllByRecursion}
 use Rattle.coverage_writers.specs.Writing.{listed}
 use Rattle.markbase.specs.Values.{Mark, Base, Contents}
 
@@ -43,5 +43,5 @@ pub record Formed (k : ℕ) (c : Contents) : Type 0 where
   pub few : k < 65536
   pub marks : listed (mark_glyphs c) ≡ true
   pub bases : listed (base_glyphs c) ≡ true
-  pub classed : All (λ (m : Mark). m.class < k) c.marks
-  pub rows : All (λ (b : Base). length b.row ≡ k) c.bases
+  pub classed : AllByRecursion (λ (m : Mark). m.class < k) c.marks
+  pub rows : AllByRecursion (λ (b : Base). length b.row ≡ k) c.bases

@@ -1,6 +1,6 @@
 -- Histories of calls, and what every history keeps.
 use Rattle.std.specs.Prelude.{◌≡◌, ℕ, ◌+◌, ◌≤◌, Bool, true, false, List, [], ◌∷◌, ◌++◌, length, Ok, Err, Option, Result}
-use Rattle.std.specs.List.{AllByRecursion as All}
+use Rattle.std.specs.List.{AllByRecursion}
 use Rattle.refusal.specs.declared.Refusal.{Refusal}
 use Rattle.refusal.specs.declared.Refusal.TheVariants.{ClassTooLarge}
 use Rattle.serialize.specs.Objects.{Node}
@@ -70,7 +70,7 @@ SameHit nodes nodes' h = SameAnchor nodes nodes' h.mark × SameAnchor nodes node
 -- a pair of glyphs has the same hits in the same order, and `attach` answers the same
 pub record SamePair (m m' : Model) (mark base : ℕ) : Type 0 where
   pub hits : hits_of m' mark base ≡ hits_of m mark base
-  pub same : All (SameHit m.graph.nodes m'.graph.nodes) (hits_of m mark base)
+  pub same : AllByRecursion (SameHit m.graph.nodes m'.graph.nodes) (hits_of m mark base)
   pub attach : attach_of m' mark base ≡ attach_of m mark base
 
 -- the subtable t stands at a place of the open lookup, behind these and before those
@@ -90,7 +90,7 @@ pub record Fewest (m m' : Model) (before : List Subtable) (t : Subtable) (after 
   pub runs : contents_of parts ≡ pieces t.table.class_count t.contents places
   pub left : subtables_of m' ≡ before ++ (parts ++ after)
   pub count : length parts ≡ n + 1
-  pub fit : All (λ (p : Subtable). whole_size m'.graph.nodes p ≤ reach) parts
+  pub fit : AllByRecursion (λ (p : Subtable). whole_size m'.graph.nodes p ≤ reach) parts
   pub fewest : (qs : List ℕ) → Cutting 0 t.table.class_count qs → Fits (sizes_of m.graph.nodes t) reach 0 t.table.class_count qs → n ≤ length qs
 
 -- what holds of every history from a model

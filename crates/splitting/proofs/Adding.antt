@@ -1,6 +1,6 @@
 -- The links that a cut adds, vertex by vertex.
 use Rattle.std.proofs.Common.{◌≡◌, ℕ, suc, ◌+◌, ◌*◌, ◌<◌, ◌≤◌, Bool, true, eqb, List, [], ◌∷◌, ◌++◌, map, length, sum_by, count_by, sym, refl, ap, ◌∙◌, arith}
-use Rattle.std.specs.List.{flat_map, AllByRecursion as All}
+use Rattle.std.specs.List.{flat_map, AllByRecursion}
 use Rattle.std.proofs.lemmas.List.{map-append}
 use Rattle.std.proofs.lemmas.List.Sums.{sum_by-cons, sum_by-append}
 use Rattle.std.proofs.lemmas.Bool.{ne_eqb, cond-false}
@@ -19,7 +19,7 @@ use Rattle.splitting.proofs.Placing.{Shaped}
 abbrev pub added : (ℕ → Bool) → List Subtable → ℕ
 added test news = count_by test (flat_map own_vertices news) + sum_by (λ (q : Subtable). one test q.table.base_coverage) news
 
-sum_none : {X : Type 0} (g : X → ℕ) (xs : List X) → All (λ x. g x ≡ 0) xs → sum_by g xs ≡ 0
+sum_none : {X : Type 0} (g : X → ℕ) (xs : List X) → AllByRecursion (λ x. g x ≡ 0) xs → sum_by g xs ≡ 0
 sum_none g [] h = refl
 sum_none g (x ∷ xs) h = omega (arith, sum_by-cons g x xs, h.0, sum_none g xs h.1)
 
@@ -27,11 +27,11 @@ sum_none g (x ∷ xs) h = omega (arith, sum_by-cons g x xs, h.0, sum_none g xs h
 one_none : (u c : ℕ) → (c ≡ u → ⊥) → one (λ d. eqb d u) c ≡ 0
 one_none u c h = cond-false _ _ _ (ne_eqb c u h)
 
-all_each : {X : Type 0} (P Q : X → Type 0) → ((x : X) → P x → Q x) → (xs : List X) → All P xs → All Q xs
+all_each : {X : Type 0} (P Q : X → Type 0) → ((x : X) → P x → Q x) → (xs : List X) → AllByRecursion P xs → AllByRecursion Q xs
 all_each P Q f [] h = tt
 all_each P Q f (x ∷ xs) h = (f x h.0, all_each P Q f xs h.1)
 
-module _ (n b : ℕ) (news : List Subtable) (numbers : All (λ (q : Subtable). All (λ u. n ≤ u) (own_vertices q)) news) (covers : All (λ (q : Subtable). q.table.base_coverage ≡ b) news) where
+module _ (n b : ℕ) (news : List Subtable) (numbers : AllByRecursion (λ (q : Subtable). AllByRecursion (λ u. n ≤ u) (own_vertices q)) news) (covers : AllByRecursion (λ (q : Subtable). q.table.base_coverage ≡ b) news) where
   covers_none : (u : ℕ) → (b ≡ u → ⊥) → sum_by (λ (q : Subtable). one (λ d. eqb d u) q.table.base_coverage) news ≡ 0
   covers_none u h = sum_none _ news (all_each (λ (q : Subtable). q.table.base_coverage ≡ b) _ (λ q e. one_none u q.table.base_coverage (λ d. h (sym e ∙ d))) news covers)
 
@@ -39,7 +39,7 @@ module _ (n b : ℕ) (news : List Subtable) (numbers : All (λ (q : Subtable). A
   pub none_added : (u : ℕ) → u < n → (b ≡ u → ⊥) → added (λ d. eqb d u) news ≡ 0
   none_added u l h = omega (arith, old_none news numbers, covers_none u h)
     where
-      old_none : (qs : List Subtable) → All (λ (q : Subtable). All (λ y. n ≤ y) (own_vertices q)) qs → count_by (λ d. eqb d u) (flat_map own_vertices qs) ≡ 0
+      old_none : (qs : List Subtable) → AllByRecursion (λ (q : Subtable). AllByRecursion (λ y. n ≤ y) (own_vertices q)) qs → count_by (λ d. eqb d u) (flat_map own_vertices qs) ≡ 0
       old_none [] k = refl
       old_none (q ∷ qs) k =
           omega (
@@ -58,7 +58,7 @@ own_count : (kind : LookupType) (q : Subtable) → Shaped kind q → count_by (�
 own_count MarkToBase q e = rw e
 own_count Extension q e = let h = e.1 in rw h
 
-pub all_added : (kind : LookupType) (news : List Subtable) → All (Shaped kind) news → added (λ d. true) news ≡ piece_links kind * length news
+pub all_added : (kind : LookupType) (news : List Subtable) → AllByRecursion (Shaped kind) news → added (λ d. true) news ≡ piece_links kind * length news
 all_added kind [] h = by kind
   where
     by : (kind : LookupType) → 0 ≡ piece_links kind * 0

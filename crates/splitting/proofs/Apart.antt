@@ -1,6 +1,6 @@
 -- One subtable of a lookup that stands: its own vertices, and those of the others.
 use Rattle.std.proofs.Common.{◌≡◌, ℕ, ◌<◌, ◌⊎◌, List, [], ◌∷◌, ◌++◌, length, Some, None, Option, sym, refl, ap, ◌∙◌, subst, inl, inr}
-use Rattle.std.specs.List.{flat_map, AllByRecursion as All}
+use Rattle.std.specs.List.{flat_map, AllByRecursion}
 use Rattle.std.proofs.lemmas.List.{append_assoc}
 use Rattle.serialize.specs.Objects.{Node}
 use Rattle.markbase.specs.Values.{Subtable}
@@ -70,7 +70,7 @@ module _ (nodes : List Node) (v : ℕ) (before : List Subtable) (t : Subtable) (
   pub inside_own : (u : Subtable) → In u (before ++ t ∷ after) → (y : ℕ) → In y (own_vertices u) → y < length nodes
   inside_own u i y j = all_in y (λ z. z < length nodes) (own v (before ++ t ∷ after)) o.inside (own_here u y i j)
 
-  pub inside_four : All (λ y. y < length nodes) (v ∷ four_of t)
+  pub inside_four : AllByRecursion (λ y. y < length nodes) (v ∷ four_of t)
   inside_four =
       let at : (y : ℕ) → In y (four_of t) → y < length nodes = λ y i. inside_own t t_here y (four_own t y i) in
       (o.inside.0, (at t.vertex (inl refl), (at t.table.mark_coverage (inr (inl refl)), (at t.table.mark_array (inr (inr (inl refl))), (at t.table.base_array (inr (inr (inr (inl refl)))), tt)))))

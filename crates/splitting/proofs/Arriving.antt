@@ -1,6 +1,6 @@
 -- What follows from a way between two states of a lookup that stand.
 use Rattle.std.proofs.Common.{◌≡◌, ℕ, ◌<◌, List, [], ◌∷◌, length, Some, None, Option, sym, refl, ap, ◌∙◌, subst, inl, inr, arith}
-use Rattle.std.specs.List.{AllByRecursion as All}
+use Rattle.std.specs.List.{AllByRecursion}
 use Rattle.serialize.specs.Objects.{Node, node_at, link_at, SoundObjects}
 use Rattle.walk.specs.Reach.{Leads, Reach, here, step, Reached}
 use Rattle.fields.specs.Arrays.{present}
@@ -52,7 +52,7 @@ module _ (nodes nodes' : List Node) where
   same_reached x g w = (λ r. (there x w g r, g w r), back x w g)
 
   -- so of anchors and nulls
-  same_anchors : (os : List (Option ℕ)) → ((x : ℕ) → In x (present os) → Steady x) → All (SameAnchor nodes nodes') os
+  same_anchors : (os : List (Option ℕ)) → ((x : ℕ) → In x (present os) → Steady x) → AllByRecursion (SameAnchor nodes nodes') os
   same_anchors [] h = tt
   same_anchors (Some x ∷ os) h = (same_reached x (h x (inl refl)), same_anchors os (λ y i. h y (inr i)))
   same_anchors (None ∷ os) h = (tt, same_anchors os h)

@@ -1,6 +1,6 @@
 -- How many links there are after a cut.
 use Rattle.std.proofs.Common.{◌≡◌, ℕ, ◌+◌, ◌<◌, Bool, cond, List, [], ◌∷◌, ◌++◌, map, length, set, Some, None, sum_by, count_by, Option, sym, refl, ap, ◌∙◌, subst, inl, inr, arith}
-use Rattle.std.specs.List.{flat_map, AllByRecursion as All}
+use Rattle.std.specs.List.{flat_map, AllByRecursion}
 use Rattle.std.proofs.lemmas.List.{get_or-set_other, get_or_append_left, length-set, length-append}
 use Rattle.std.proofs.lemmas.List.Sums.{sum_by-cons, sum_by-append}
 use Rattle.serialize.specs.Objects.{Node, node_at, no_node}
@@ -80,7 +80,7 @@ module _ (test : ℕ → Bool) where
           rw e (omega (arith, c4, c5, c1))
 
   -- all links that new pieces bring, with those of the lookup to them
-  pub pieces_count : (w : Meaning) (qs : List Subtable) → All (Kids w) qs
+  pub pieces_count : (w : Meaning) (qs : List Subtable) → AllByRecursion (Kids w) qs
       → count_by test (map top_of qs) + tally test (flat_map (vertices w) qs ++ flat_map extension_vertex qs) ≡ count_by test (flat_map own_vertices qs) + sum_by (λ (q : Subtable). one test q.table.base_coverage) qs + sum_by marks_of qs + sum_by bases_of qs
   pieces_count w [] k = refl
   pieces_count w (q ∷ qs) k =
@@ -126,7 +126,7 @@ module _ (test : ℕ → Bool) (nodes : List Node) (a b c d : ℕ) (x y z u : No
       let t3 = set_count test n3 d u (kids (node_at nodes d)) (omega (arith, l1, l2, l3)) (ap kids e3) in
       omega (arith, t0, t1, t2, t3)
 
-module _ (test : ℕ → Bool) (w : Meaning) (nodes : List Node) (v : ℕ) (t : Subtable) (p : ℕ) (distinct : Distinct (v ∷ four_of t)) (inside : All (λ u. u < length nodes) (v ∷ four_of t)) (old : Links nodes t) (new : Kids w (kept_piece t p)) where
+module _ (test : ℕ → Bool) (w : Meaning) (nodes : List Node) (v : ℕ) (t : Subtable) (p : ℕ) (distinct : Distinct (v ∷ four_of t)) (inside : AllByRecursion (λ u. u < length nodes) (v ∷ four_of t)) (old : Links nodes t) (new : Kids w (kept_piece t p)) where
   abbrev kept : Subtable
   kept = kept_piece t p
 
@@ -168,7 +168,7 @@ module _ (test : ℕ → Bool) (w : Meaning) (nodes : List Node) (v : ℕ) (t : 
       ∙ get_or-set_other nodes t.vertex v (subtable_vertex kept) no_node (λ e. d0 (inl (sym e)))))
 
   -- all links after a cut: those before it, those to the own vertices of new pieces, and those to the base coverage
-  pub cut_count : (news : List Subtable) (x : Node) (tops new-tops : List ℕ) → All (Kids w) news → children (node_at nodes v) ≡ tops → children x ≡ new-tops
+  pub cut_count : (news : List Subtable) (x : Node) (tops new-tops : List ℕ) → AllByRecursion (Kids w) news → children (node_at nodes v) ≡ tops → children x ≡ new-tops
       → count_by test new-tops ≡ count_by test tops + count_by test (map top_of news)
       → marks_of test kept + sum_by (marks_of test) news ≡ marks_of test t → bases_of test kept + sum_by (bases_of test) news ≡ bases_of test t
       → tally test (set (rewritten w nodes kept ++ new_vertices w news) v x) ≡ tally test nodes + (count_by test (flat_map own_vertices news) + sum_by (λ (q : Subtable). one test q.table.base_coverage) news)

@@ -1,6 +1,6 @@
 -- A lookup that was extended stands.
 use Rattle.std.proofs.Common.{◌≡◌, ℕ, suc, ◌+◌, ◌-◌, ◌<◌, ◌≤◌, Bool, true, cond, eqb, List, [], ◌∷◌, map, length, set, Some, None, Ok, count_by, sym, refl, ap, ◌∙◌, subst, inl, inr, ⊎_elim, arith}
-use Rattle.std.specs.List.{flat_map, AllByRecursion as All}
+use Rattle.std.specs.List.{flat_map, AllByRecursion}
 use Rattle.std.proofs.lemmas.List.{length-set, length-append, get_or_append_left, get_or-append_right, get_or-set_same, get_or-set_other}
 use Rattle.std.proofs.ByRecursion.{All-get_or, All-from_get_or, All-append, All-set, All-weaker}
 use Rattle.std.proofs.lemmas.List.Sums.{sum_by-cons}
@@ -72,7 +72,7 @@ each_put e (t ∷ ts) u (inr i) =
     record { origin = p.origin; among = inr p.among; place = suc p.place; inside = omega (arith, p.inside); is = p.is ∙ ap (λ (m : ℕ). put m p.origin) at; front = p.front }
 
 all_put : (P : Subtable → Type 0) (e : ℕ) (ts : List Subtable)
-    → ((t : Subtable) → In t ts → (k : ℕ) → k < length ts → node_at (fronts e ts) k ≡ vertex_of (as_extension t.vertex) → P (put (e + k) t)) → All P (behind e ts)
+    → ((t : Subtable) → In t ts → (k : ℕ) → k < length ts → node_at (fronts e ts) k ≡ vertex_of (as_extension t.vertex) → P (put (e + k) t)) → AllByRecursion P (behind e ts)
 all_put P e ts h = all_from_in P (behind e ts) (λ u i. let p = each_put e ts u i in subst P (sym p.is) (h p.origin p.among p.place p.inside p.front))
 
 -- extensions change no hit
@@ -98,7 +98,7 @@ count_numbers e [] = refl
 count_numbers e (t ∷ ts) = omega (arith, sum_by-cons (λ (c : ℕ). 1) e (numbers (e + 1) ts), count_numbers (e + 1) ts)
 
 -- all numbers are below the end
-numbers_below : (e : ℕ) (ts : List Subtable) → All (λ c. c < e + length ts) (numbers e ts)
+numbers_below : (e : ℕ) (ts : List Subtable) → AllByRecursion (λ c. c < e + length ts) (numbers e ts)
 numbers_below e [] = tt
 numbers_below e (t ∷ ts) = (omega arith, All-weaker (λ c. c < e + 1 + length ts) (λ c. c < e + suc (length ts)) (λ c h. omega arith) (numbers (e + 1) ts) (numbers_below (e + 1) ts))
 
@@ -114,7 +114,7 @@ tally_fronts test e (t ∷ ts) =
     )
 
 -- without extensions the tops are the subtables
-tops_none : (ts : List Subtable) → All (λ (t : Subtable). t.extension ≡ None) ts → map top_of ts ≡ map (λ (t : Subtable). t.vertex) ts
+tops_none : (ts : List Subtable) → AllByRecursion (λ (t : Subtable). t.extension ≡ None) ts → map top_of ts ≡ map (λ (t : Subtable). t.vertex) ts
 tops_none [] h = refl
 tops_none (t ∷ ts) h = let one = top_none t h.0 in let more = tops_none ts h.1 in rw (one, more)
 
@@ -146,8 +146,8 @@ module _ (nodes : List Node) (v : ℕ) (f : Fields) (ts : List Subtable) (s : St
   whose : Owned nodes v ts
   whose = owned links_lead s
 
-  parts_before : All (Parts nodes MarkToBase) ts
-  parts_before = subst (λ (k : LookupType). All (Parts nodes k) ts) four (parts_of s)
+  parts_before : AllByRecursion (Parts nodes MarkToBase) ts
+  parts_before = subst (λ (k : LookupType). AllByRecursion (Parts nodes k) ts) four (parts_of s)
 
   parts_at : (t : Subtable) → In t ts → Parts nodes MarkToBase t
   parts_at t i = all_in t (Parts nodes MarkToBase) ts parts_before i
@@ -185,14 +185,14 @@ module _ (nodes : List Node) (v : ℕ) (f : Fields) (ts : List Subtable) (s : St
   head_reads = lookups_come_back fields' s.words.flag (omega (arith, numbers_long (length nodes) ts)) s.words.filter s.words.filters
 
   -- all vertices are sound
-  sound_fronts : All (SoundVertex (length nodes + length ts)) (fronts (length nodes) ts)
+  sound_fronts : AllByRecursion (SoundVertex (length nodes + length ts)) (fronts (length nodes) ts)
   sound_fronts = go (length nodes) ts (λ t i. part_below t i t.vertex (inl refl))
     where
-      go : (e : ℕ) (xs : List Subtable) → ((t : Subtable) → In t xs → t.vertex < length nodes) → All (SoundVertex (length nodes + length ts)) (fronts e xs)
+      go : (e : ℕ) (xs : List Subtable) → ((t : Subtable) → In t xs → t.vertex < length nodes) → AllByRecursion (SoundVertex (length nodes + length ts)) (fronts e xs)
       go e [] h = tt
       go e (t ∷ xs) h = (written_sound (extensions_come_back t.vertex) links_lead.behind (length nodes + length ts) (omega (arith, h t (inl refl)), tt), go (e + 1) xs (λ u i. h u (inr i)))
 
-  sound_all : All (SoundVertex (length nodes + length ts)) nodes'
+  sound_all : AllByRecursion (SoundVertex (length nodes + length ts)) nodes'
   sound_all =
       let count = length nodes + length ts in
       let before = All-from_get_or (SoundVertex count) nodes no_node (λ u h. sound_more (length nodes) count (omega arith) (node_at nodes u) (s.sound u h)) in
@@ -219,7 +219,7 @@ module _ (nodes : List Node) (v : ℕ) (f : Fields) (ts : List Subtable) (s : St
   -- the links are those from before, and one to each extension
   tally_then : (test : ℕ → Bool) → tally test nodes' ≡ tally test nodes + count_by test (numbers (length nodes) ts)
   tally_then test =
-      let none : All (λ (t : Subtable). t.extension ≡ None) ts = All-weaker (Parts nodes MarkToBase) (λ (t : Subtable). t.extension ≡ None) (λ t p. p.behind) ts parts_before in
+      let none : AllByRecursion (λ (t : Subtable). t.extension ≡ None) ts = All-weaker (Parts nodes MarkToBase) (λ (t : Subtable). t.extension ≡ None) (λ t p. p.behind) ts parts_before in
       let here : count_by test (children (node_at nodes v)) ≡ count_by test (map (λ (t : Subtable). t.vertex) ts) = ap (count_by test) (lookup_leads links_lead s ∙ tops_none ts none) in
       let new : count_by test (children head) ≡ count_by test (numbers (length nodes) ts) = ap (count_by test) (written_leads head_reads links_lead.lookups) in
       omega (arith, tally_append test (set nodes v head) (fronts (length nodes) ts), tally_set test nodes v head s.here, tally_fronts test (length nodes) ts)
@@ -230,11 +230,11 @@ module _ (nodes : List Node) (v : ℕ) (f : Fields) (ts : List Subtable) (s : St
   incoming_old : (w : ℕ) → w < length nodes → incoming nodes' w ≡ incoming nodes w
   incoming_old w h = omega (arith, incoming_then w, none_before w (length nodes) ts h)
 
-  once_put : (t : Subtable) → In t ts → (k : ℕ) → All (λ u. incoming nodes' u ≤ 1) (own_vertices (put (length nodes + k) t))
+  once_put : (t : Subtable) → In t ts → (k : ℕ) → AllByRecursion (λ u. incoming nodes' u ≤ 1) (own_vertices (put (length nodes + k) t))
   once_put t i k =
       let front : incoming nodes' (length nodes + k) ≤ 1 =
       omega (arith, incoming_then (length nodes + k), incoming_past nodes s.sound (length nodes + k) (omega arith), once_among (length nodes + k) (length nodes) ts) in
-      let once = subst (All (λ u. incoming nodes u ≤ 1)) (own_none t (parts_at t i).behind) (all_in t _ ts s.once i) in
+      let once = subst (AllByRecursion (λ u. incoming nodes u ≤ 1)) (own_none t (parts_at t i).behind) (all_in t _ ts s.once i) in
       (front, all_from_in (λ u. incoming nodes' u ≤ 1) (bare t) (λ u j. omega (arith, incoming_old u (part_below t i u j), all_in u (λ w. incoming nodes w ≤ 1) (bare t) once j)))
 
   stands_then : Stands nodes' v fields' after

@@ -2,7 +2,7 @@
 use Rattle.std.proofs.Common.{◌≡◌, ℕ, zero, suc, ◌+◌, ◌<◌, ◌≤◌, Bool, true, false, cond, eqb, ltb, leb, List, [], ◌∷◌, map, length, get_or, take, drop, is_some, Some, None, Ok, Err, Option, Result, unwrap_or, sym, refl, ap, ◌∙◌, subst, ⊎_elim, arith}
 use Rattle.std.proofs.lemmas.List.{get_or-take, get_or-drop, get_or_past, length-take}
 use Rattle.std.proofs.lemmas.Bool.{eqb-true, leb-true, ltb-true, lt-ltb, cases_lt, and_from}
-use Rattle.std.specs.List.{AllByRecursion as All}
+use Rattle.std.specs.List.{AllByRecursion}
 use Rattle.serialize.specs.declared.link.Link.{Link}
 use Rattle.serialize.specs.declared.link.LinkWidth.{LinkWidth}
 use Rattle.serialize.specs.declared.link.LinkWidth.TheVariants.{Two}
@@ -104,15 +104,15 @@ nullable_gives = record {
 }
 
 -- as many values as were asked for, each with the property
-times_gives : {A : Type 0} (r : Reader A) (P : A → Type 0) → Gives r P → (n : ℕ) → Gives (times n r) (λ as'. (length as' ≡ n) × All P as')
-times_gives r P one zero = give_gives (λ as'. (length as' ≡ 0) × All P as') [] (refl, tt)
+times_gives : {A : Type 0} (r : Reader A) (P : A → Type 0) → Gives r P → (n : ℕ) → Gives (times n r) (λ as'. (length as' ≡ n) × AllByRecursion P as')
+times_gives r P one zero = give_gives (λ as'. (length as' ≡ 0) × AllByRecursion P as') [] (refl, tt)
 times_gives r P one (suc n) = record {
   goes = λ s as' t low e.
       let o = then_ok (r s) (λ a s'. also a (times n r s')) as' t e in
       let q = also_ok o.0 (times n r o.1) as' t o.3 in
       let g = one.goes s o.0 o.1 low o.2 in
       let h = (times_gives r P one n).goes o.1 q.0 t g.1 q.1 in
-      (subst (λ bs. (length bs ≡ suc n) × All P bs) (sym q.2) (ap suc h.0.0, (g.0, h.0.1)), h.1);
+      (subst (λ bs. (length bs ≡ suc n) × AllByRecursion P bs) (sym q.2) (ap suc h.0.0, (g.0, h.0.1)), h.1);
 }
 
 -- a whole vertex
@@ -126,9 +126,9 @@ mark_gives k =
     (λ c h. then_gives nullable (λ anchor. give (c, anchor)) _ (λ (m : ℕ × Option ℕ). m.0 < k) nullable_gives (λ a u. give_gives (λ (m : ℕ × Option ℕ). m.0 < k) (c, a) (ltb-true c k h.1)))
 
 -- n records after their count, which is a word
-array_gives : {A : Type 0} (r : Reader A) (P : A → Type 0) → Gives r P → (n : ℕ) → Gives (allowed (eqb n) ⟫ λ count. times n r) (λ as'. (n < 65536) × (length as' ≡ n) × All P as')
+array_gives : {A : Type 0} (r : Reader A) (P : A → Type 0) → Gives r P → (n : ℕ) → Gives (allowed (eqb n) ⟫ λ count. times n r) (λ as'. (n < 65536) × (length as' ≡ n) × AllByRecursion P as')
 array_gives r P one n =
-    then_gives (allowed (eqb n)) (λ count. times n r) _ (λ as'. (n < 65536) × (length as' ≡ n) × All P as') (allowed_gives (eqb n))
+    then_gives (allowed (eqb n)) (λ count. times n r) _ (λ as'. (n < 65536) × (length as' ≡ n) × AllByRecursion P as') (allowed_gives (eqb n))
     (λ w h. record { goes = λ s as' t low e. let g = (times_gives r P one n).goes s as' t low e in let same = eqb-true n w h.1 in let few : n < 65536 = omega (arith, h.0) in ((few, g.0.0, g.0.1), g.1) })
 
 -- from 1 to 65535 classes
@@ -164,7 +164,7 @@ glyphs_back f glyph back [] as' e = refl
 glyphs_back f glyph back (g ∷ gs) [] e = absurd (omega arith)
 glyphs_back f glyph back (g ∷ gs) (a ∷ as') e = λ i. back g a i ∷ glyphs_back f glyph back gs as' (omega arith) i
 
-all_paired : {A X : Type 0} (f : ℕ → A → X) (P : A → Type 0) (Q : X → Type 0) → ((g : ℕ) (a : A) → P a → Q (f g a)) → (gs : List ℕ) (as' : List A) → All P as' → All Q (paired f gs as')
+all_paired : {A X : Type 0} (f : ℕ → A → X) (P : A → Type 0) (Q : X → Type 0) → ((g : ℕ) (a : A) → P a → Q (f g a)) → (gs : List ℕ) (as' : List A) → AllByRecursion P as' → AllByRecursion Q (paired f gs as')
 all_paired f P Q each [] as' h = tt
 all_paired f P Q each (g ∷ gs) [] h = tt
 all_paired f P Q each (g ∷ gs) (a ∷ as') h = (each g a h.0, all_paired f P Q each gs as' h.1)

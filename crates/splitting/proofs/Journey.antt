@@ -1,6 +1,6 @@
 -- From one state of a lookup to another: what composes, and what follows in the end.
 use Rattle.std.proofs.Common.{◌≡◌, ℕ, ◌+◌, ◌<◌, List, length, Option, refl, ◌∙◌, arith}
-use Rattle.std.specs.List.{ContainsAt as Has, AllByRecursion as All}
+use Rattle.std.specs.List.{ContainsAt as Has, AllByRecursion}
 use Rattle.std.proofs.ByRecursion.{All-weaker}
 use Rattle.serialize.specs.Objects.{Node, node_at, all_links}
 use Rattle.markbase.specs.Values.{Subtable}
@@ -22,11 +22,11 @@ pub record Journey (nodes nodes' : List Node) (v : ℕ) (ts us : List Subtable) 
   -- only own vertices change, and no old vertex becomes an own one
   pub kept : (u : ℕ) → u < length nodes → (In u (own v ts) → ⊥) → node_at nodes' u ≡ node_at nodes u
   pub grows : (u : ℕ) → u < length nodes → In u (own v us) → In u (own v ts)
-  pub from : All (From ts) us
+  pub from : AllByRecursion (From ts) us
   pub vertices : length nodes' ≡ length nodes + more
   pub linked : length (all_links nodes') ≡ length (all_links nodes) + links
 
-pub from_itself : (ts : List Subtable) → All (From ts) ts
+pub from_itself : (ts : List Subtable) → AllByRecursion (From ts) ts
 from_itself ts = all_from_in (From ts) ts (λ t i. record { origin = t; among = i; cover = refl; inside = λ o h. h })
 
 -- no way at all
@@ -40,7 +40,7 @@ stays nodes v ts = record {
   linked = omega arith;
 }
 
-from_on : {ts us : List Subtable} → All (From ts) us → (w : Subtable) → From us w → From ts w
+from_on : {ts us : List Subtable} → AllByRecursion (From ts) us → (w : Subtable) → From us w → From ts w
 from_on {ts} {us} f w g =
     let h = all_in g.origin (From ts) us f g.among in
     record { origin = h.origin; among = h.among; cover = g.cover ∙ h.cover; inside = λ o k. h.inside o (g.inside o k) }

@@ -1,6 +1,6 @@
 -- Membership of lists, and lists without repetition.
 use Rattle.std.proofs.Common.{◌≡◌, ℕ, zero, suc, ◌+◌, ◌<◌, ◌≤◌, Bool, cond, eqb, ◌⊎◌, List, [], ◌∷◌, ◌++◌, map, length, get_or, set, replicate, sum_by, count_by, sym, refl, ap, ◌∙◌, subst, inl, inr, ⊎_elim, arith}
-use Rattle.std.specs.List.{ContainsAt as Has, flat_map, AllByRecursion as All}
+use Rattle.std.specs.List.{ContainsAt as Has, flat_map, AllByRecursion}
 use Rattle.std.proofs.lemmas.List.{length-set, length-replicate, get_or-set_other, get_or-replicate}
 use Rattle.std.proofs.ByRecursion.{All-from_get_or, sum_by_le}
 use Rattle.std.proofs.lemmas.List.Sums.{sum_by-cons, sum_by-set}
@@ -52,13 +52,13 @@ module _ {X : Type 0} (x : X) where
   has_in xs h = in_at xs x h.0 h.1 (h.2 x)
 
   -- what holds of all elements holds of this one
-  pub all_in : (P : X → Type 0) (xs : List X) → All P xs → In x xs → P x
+  pub all_in : (P : X → Type 0) (xs : List X) → AllByRecursion P xs → In x xs → P x
   all_in P [] h i = absurd i
   all_in P (y ∷ xs) h (inl e) = subst P e h.0
   all_in P (y ∷ xs) h (inr i) = all_in P xs h.1 i
 
 -- what holds of whatever is an element holds of all
-pub all_from_in : {X : Type 0} (P : X → Type 0) (xs : List X) → ((x : X) → In x xs → P x) → All P xs
+pub all_from_in : {X : Type 0} (P : X → Type 0) (xs : List X) → ((x : X) → In x xs → P x) → AllByRecursion P xs
 all_from_in P [] h = tt
 all_from_in P (x ∷ xs) h = (h x (inl refl), all_from_in P xs (λ y i. h y (inr i)))
 
@@ -137,13 +137,13 @@ sum_same f g [] h = refl
 sum_same f g (x ∷ xs) h = omega (arith, sum_by-cons f x xs, sum_by-cons g x xs, h x (inl refl), sum_same f g xs (λ y i. h y (inr i)))
 
 -- what stands at distinct places sums up to no more than the whole
-pub sum_chosen : {X : Type 0} (f : X → ℕ) (d : X) → f d ≡ 0 → (xs : List X) (us : List ℕ) → Distinct us → All (λ u. u < length xs) us → sum_by (λ u. f (get_or xs u d)) us ≤ sum_by f xs
+pub sum_chosen : {X : Type 0} (f : X → ℕ) (d : X) → f d ≡ 0 → (xs : List X) (us : List ℕ) → Distinct us → AllByRecursion (λ u. u < length xs) us → sum_by (λ u. f (get_or xs u d)) us ≤ sum_by f xs
 sum_chosen f d z xs [] a b = omega arith
 sum_chosen {X} f d z xs (u ∷ us) a b =
     let xs' = set xs u d in
     let at : List X → ℕ → ℕ = λ ys w. f (get_or ys w d) in
     let same : sum_by (at xs) us ≡ sum_by (at xs') us = sum_same (at xs) (at xs') us (λ w i. ap f (sym (get_or-set_other xs u w d d (λ e. a.0 (subst (λ (k : ℕ). In k us) e i))))) in
-    let rest = sum_chosen f d z xs' us a.1 (subst (λ (n : ℕ). All (λ w. w < n) us) (sym (length-set xs u d)) b.1) in
+    let rest = sum_chosen f d z xs' us a.1 (subst (λ (n : ℕ). AllByRecursion (λ w. w < n) us) (sym (length-set xs u d)) b.1) in
     omega (arith, sum_by-cons (at xs) u us, sum_by-set f xs u d d b.0)
 
 sum_ones : {X : Type 0} (xs : List X) → sum_by (λ (x : X). 1) xs ≡ length xs
@@ -151,11 +151,11 @@ sum_ones [] = refl
 sum_ones {X} (x ∷ xs) = omega (arith, sum_by-cons (λ (y : X). 1) x xs, sum_ones xs)
 
 -- distinct numbers below n are n at most
-pub pigeonhole : (n : ℕ) (xs : List ℕ) → Distinct xs → All (λ x. x < n) xs → length xs ≤ n
+pub pigeonhole : (n : ℕ) (xs : List ℕ) → Distinct xs → AllByRecursion (λ x. x < n) xs → length xs ≤ n
 pigeonhole n xs a b =
     let ones : List ℕ = replicate n 1 in
     let long : length ones ≡ n = length-replicate n 1 in
-    let chosen = sum_chosen (λ (x : ℕ). x) 0 refl ones xs a (subst (λ (m : ℕ). All (λ w. w < m) xs) (sym long) b) in
+    let chosen = sum_chosen (λ (x : ℕ). x) 0 refl ones xs a (subst (λ (m : ℕ). AllByRecursion (λ w. w < m) xs) (sym long) b) in
     let each = sum_same (λ u. get_or ones u 0) (λ u. 1) xs (λ u i. get_or-replicate n u 1 0 (all_in u (λ x. x < n) xs b i)) in
     let small = sum_by_le (λ (x : ℕ). x) 1 ones (All-from_get_or (λ x. x ≤ 1) ones 1 (λ i h. let e : get_or ones i 1 ≡ 1 = get_or-replicate n i 1 1 (omega arith) in omega arith)) in
     omega (arith, sum_ones xs)

@@ -3,7 +3,7 @@ use Rattle.std.proofs.Common.{◌≡◌, ℕ, ◌+◌, ◌<◌, ◌≤◌, Bool,
 use Rattle.std.proofs.ByRecursion.{All-weaker}
 use Rattle.std.proofs.lemmas.Bool.{le-ltb, ltb-false}
 use Rattle.std.specs.Option.{option_map}
-use Rattle.std.specs.List.{AllByRecursion as All}
+use Rattle.std.specs.List.{AllByRecursion}
 use Rattle.refusal.specs.declared.Part.{Part}
 use Rattle.refusal.specs.declared.Part.TheVariants as part
 use Rattle.refusal.specs.declared.Refusal.{Refusal}
@@ -46,10 +46,10 @@ module _ (count : ℕ → ℕ) where
   abbrev four : ℕ → ℕ → ℕ → ℕ → Option Part
   four v m r b = shared_or count part.Subtable v (shared_or count part.MarkCoverage m (shared_or count part.MarkArray r (shared_or count part.BaseArray b None)))
 
-  pass_four : (v m r b : ℕ) → All (λ u. count u ≤ 1) (v ∷ m ∷ r ∷ b ∷ []) → four v m r b ≡ None
+  pass_four : (v m r b : ℕ) → AllByRecursion (λ u. count u ≤ 1) (v ∷ m ∷ r ∷ b ∷ []) → four v m r b ≡ None
   pass_four v m r b h = pass _ v _ h.0 ∙ (pass _ m _ h.1.0 ∙ (pass _ r _ h.1.1.0 ∙ pass _ b _ h.1.1.1.0))
 
-  passed_four : (v m r b : ℕ) → four v m r b ≡ None → All (λ u. count u ≤ 1) (v ∷ m ∷ r ∷ b ∷ [])
+  passed_four : (v m r b : ℕ) → four v m r b ≡ None → AllByRecursion (λ u. count u ≤ 1) (v ∷ m ∷ r ∷ b ∷ [])
   passed_four v m r b e =
       let one = passed _ v _ e in
       let two = passed _ m _ one.1 in
@@ -60,19 +60,19 @@ module _ (count : ℕ → ℕ) where
   abbrev own : Option ℕ → ℕ → ℕ → ℕ → ℕ → List ℕ
   own x v m r b = elim x [ None ↦ v ∷ m ∷ r ∷ b ∷ [] | Some e ↦ e ∷ v ∷ m ∷ r ∷ b ∷ [] ]
 
-  pass_own : (x : Option ℕ) (v m r b : ℕ) → All (λ u. count u ≤ 1) (own x v m r b) → extension_or count x (four v m r b) ≡ None
+  pass_own : (x : Option ℕ) (v m r b : ℕ) → AllByRecursion (λ u. count u ≤ 1) (own x v m r b) → extension_or count x (four v m r b) ≡ None
   pass_own None v m r b h = pass_four v m r b h
   pass_own (Some e) v m r b h = pass _ e _ h.0 ∙ pass_four v m r b h.1
 
-  passed_own : (x : Option ℕ) (v m r b : ℕ) → extension_or count x (four v m r b) ≡ None → All (λ u. count u ≤ 1) (own x v m r b)
+  passed_own : (x : Option ℕ) (v m r b : ℕ) → extension_or count x (four v m r b) ≡ None → AllByRecursion (λ u. count u ≤ 1) (own x v m r b)
   passed_own None v m r b h = passed_four v m r b h
   passed_own (Some e) v m r b h = let p = passed _ e _ h in (p.0, passed_four v m r b p.1)
 
 -- no part is shared just if one link at most leads to each
-unshared : (count : ℕ → ℕ) (t : Subtable) → All (λ u. count u ≤ 1) (own_vertices t) → shared_part count (info t) ≡ None
+unshared : (count : ℕ → ℕ) (t : Subtable) → AllByRecursion (λ u. count u ≤ 1) (own_vertices t) → shared_part count (info t) ≡ None
 unshared count t h = pass_own count t.extension t.vertex t.table.mark_coverage t.table.mark_array t.table.base_array h
 
-once : (count : ℕ → ℕ) (t : Subtable) → shared_part count (info t) ≡ None → All (λ u. count u ≤ 1) (own_vertices t)
+once : (count : ℕ → ℕ) (t : Subtable) → shared_part count (info t) ≡ None → AllByRecursion (λ u. count u ≤ 1) (own_vertices t)
 once count t e = passed_own count t.extension t.vertex t.table.mark_coverage t.table.mark_array t.table.base_array e
 
 -- where a subtable was read from
@@ -89,14 +89,14 @@ top_of_lem nodes Extension v t e =
 
 -- one link at most leads to each part of a subtable's own
 abbrev Once : List Node → Subtable → Type 0
-Once nodes t = All (λ u. incoming nodes u ≤ 1) (own_vertices t)
+Once nodes t = AllByRecursion (λ u. incoming nodes u ≤ 1) (own_vertices t)
 
 -- subtables that are read, with no part shared: nothing is wrong with them, and they are what their offsets lead to
 module _ (nodes : List Node) (kind : LookupType) where
   abbrev Reads : Subtable → Type 0
   Reads t = subtable_of nodes kind (top_of t) ≡ Ok t
 
-  none_wrong : (i : ℕ) (ts : List Subtable) → All Reads ts → All (Once nodes) ts → wrong_among nodes kind i (map top_of ts) ≡ None
+  none_wrong : (i : ℕ) (ts : List Subtable) → AllByRecursion Reads ts → AllByRecursion (Once nodes) ts → wrong_among nodes kind i (map top_of ts) ≡ None
   none_wrong i [] r o = refl
   none_wrong i (t ∷ ts) r o =
       let rest = none_wrong (i + 1) ts r.1 o.1 in
@@ -104,7 +104,7 @@ module _ (nodes : List Node) (kind : LookupType) where
       ap (λ (x : Result Subtable PartFault). or_else (wrong_with nodes i (info_of x)) later) r.0
       ∙ (ap (λ (x : Option Part). or_else (option_map (SharedPart i) x) later) (unshared (incoming nodes) t o.0) ∙ rest)
 
-  all_read : (i : ℕ) (ts : List Subtable) → All Reads ts → subtables_from nodes kind i (map top_of ts) ≡ Ok ts
+  all_read : (i : ℕ) (ts : List Subtable) → AllByRecursion Reads ts → subtables_from nodes kind i (map top_of ts) ≡ Ok ts
   all_read i [] r = refl
   all_read i (t ∷ ts) r = ap (λ (x : Result Subtable PartFault). also (placed i x) (subtables_from nodes kind (i + 1) (map top_of ts))) r.0 ∙ ap (also (Ok t)) (all_read (i + 1) ts r.1)
 
@@ -133,8 +133,8 @@ unbroken nodes i (Err f) e = let z : ◌≡◌ {A = ℕ} 0 1 = cc in absurd (ome
 record Found (nodes : List Node) (kind : LookupType) (vs : List ℕ) : Type 0 where
   ts : List Subtable
   offsets : vs ≡ map top_of ts
-  reads : All (Reads nodes kind) ts
-  once : All (Once nodes) ts
+  reads : AllByRecursion (Reads nodes kind) ts
+  once : AllByRecursion (Once nodes) ts
 
 find : (nodes : List Node) (kind : LookupType) (i : ℕ) (vs : List ℕ) → wrong_among nodes kind i vs ≡ None → Found nodes kind vs
 find nodes kind i [] e = record { ts = []; offsets = refl; reads = tt; once = tt }

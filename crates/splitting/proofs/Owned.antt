@@ -1,6 +1,6 @@
 -- The vertices that a lookup has for itself: none of them stands for two parts, and nothing else leads to them.
 use Rattle.std.proofs.Common.{◌≡◌, ℕ, ◌+◌, ◌<◌, ◌≤◌, cond, eqb, ◌⊎◌, List, [], ◌∷◌, ◌++◌, map, length, Some, None, sum_by, Option, sym, refl, ap, ◌∙◌, subst, inl, inr, ⊎_elim, arith}
-use Rattle.std.specs.List.{flat_map, AllByRecursion as All}
+use Rattle.std.specs.List.{flat_map, AllByRecursion}
 use Rattle.std.proofs.lemmas.List.{length-map}
 use Rattle.std.proofs.lemmas.List.Sums.{sum_by-cons}
 use Rattle.std.proofs.lemmas.Bool.{cases_lt}
@@ -26,13 +26,13 @@ own v ts = v ∷ flat_map own_vertices ts
 -- they are distinct, and stand apart from the base coverages and from the anchors
 pub record Owned (nodes : List Node) (v : ℕ) (ts : List Subtable) : Type 0 where
   pub distinct : Distinct (own v ts)
-  pub inside : All (λ u. u < length nodes) (own v ts)
+  pub inside : AllByRecursion (λ u. u < length nodes) (own v ts)
   -- a base coverage is none of them
-  pub covers : All (λ (t : Subtable). In t.table.base_coverage (own v ts) → ⊥) ts
-  pub below : All (λ (t : Subtable). t.table.base_coverage < length nodes) ts
+  pub covers : AllByRecursion (λ (t : Subtable). In t.table.base_coverage (own v ts) → ⊥) ts
+  pub below : AllByRecursion (λ (t : Subtable). t.table.base_coverage < length nodes) ts
   -- nothing that an anchor reaches is one of them
-  pub apart : All (λ (t : Subtable). (x w : ℕ) → In x (present (anchors t.contents)) → Reach nodes x w → In w (own v ts) → ⊥) ts
-  pub anchored : All (λ (t : Subtable). All (λ x. x < length nodes) (present (anchors t.contents))) ts
+  pub apart : AllByRecursion (λ (t : Subtable). (x w : ℕ) → In x (present (anchors t.contents)) → Reach nodes x w → In w (own v ts) → ⊥) ts
+  pub anchored : AllByRecursion (λ (t : Subtable). AllByRecursion (λ x. x < length nodes) (present (anchors t.contents))) ts
   pub few : length ts ≤ length nodes
 
 -- the extension of a subtable, if it has one
@@ -143,7 +143,7 @@ module _ (lead : LinksLead) {nodes : List Node} {v : ℕ} {f : Fields} {ts : Lis
   Led xs = (w : ℕ) → often w xs ≤ incoming nodes w
 
   -- then they are vertices, and distinct if one link at most leads to each
-  led_inside : (xs : List ℕ) → Led xs → All (λ u. u < length nodes) xs
+  led_inside : (xs : List ℕ) → Led xs → AllByRecursion (λ u. u < length nodes) xs
   led_inside xs l =
       all_from_in (λ u. u < length nodes) xs (λ w i. ⊎_elim (λ h. h) (λ h. absurd (omega (arith, count_from_in w xs i, l w, incoming_past nodes s.sound w h))) (cases_lt w (length nodes)))
 
@@ -172,7 +172,7 @@ module _ (lead : LinksLead) {nodes : List Node} {v : ℕ} {f : Fields} {ts : Lis
   links_at_lem t i = all_in t (Links nodes) ts (links_of_lem lead s) i
 
   once_at : (t : Subtable) → In t ts → (w : ℕ) → In w (own_vertices t) → incoming nodes w ≤ 1
-  once_at t i w j = all_in w (λ u. incoming nodes u ≤ 1) (own_vertices t) (all_in t (λ (x : Subtable). All (λ u. incoming nodes u ≤ 1) (own_vertices x)) ts s.once i) j
+  once_at t i w j = all_in w (λ u. incoming nodes u ≤ 1) (own_vertices t) (all_in t (λ (x : Subtable). AllByRecursion (λ u. incoming nodes u ≤ 1) (own_vertices x)) ts s.once i) j
 
   once_in : (g : Subtable → List ℕ) → ((w : ℕ) (t : Subtable) → In w (g t) → In w (own_vertices t)) → (w : ℕ) → In w (flat_map g ts) → incoming nodes w ≤ 1
   once_in g h w i = let r = in_joined g w ts i in once_at r.0 r.1 w (h w r.0 r.2)

@@ -1,6 +1,6 @@
 -- The parts of a subtable that reads, and where their links lead.
 use Rattle.std.proofs.Common.{◌≡◌, ℕ, List, [], ◌∷◌, map, length, Some, None, Ok, Err, Option, Result, sym, refl, ap, ◌∙◌, subst, ⊎_elim, arith}
-use Rattle.std.specs.List.{flat_map, AllByRecursion as All}
+use Rattle.std.specs.List.{flat_map, AllByRecursion}
 use Rattle.std.proofs.lemmas.List.{length-map, get_or_past}
 use Rattle.std.proofs.ByRecursion.{All-weaker}
 use Rattle.std.proofs.lemmas.Bool.{cases_lt}
@@ -233,8 +233,8 @@ pub lookup_leads : LinksLead → {nodes : List Node} {v : ℕ} {f : Fields} {ts 
 lookup_leads lead {nodes} {v} {f} {ts} s = lead.lookups (length nodes) (node_at nodes v) (sound_at nodes s.sound v) f s.fields ∙ s.offsets
 
 -- the parts of all subtables of a lookup, and their links
-pub parts_of : {nodes : List Node} {v : ℕ} {f : Fields} {ts : List Subtable} → Stands nodes v f ts → All (Parts nodes f.kind) ts
+pub parts_of : {nodes : List Node} {v : ℕ} {f : Fields} {ts : List Subtable} → Stands nodes v f ts → AllByRecursion (Parts nodes f.kind) ts
 parts_of {nodes} {v} {f} {ts} s = All-weaker _ (Parts nodes f.kind) (parts nodes s.sound f.kind) ts s.reads
 
-pub links_of_lem : LinksLead → {nodes : List Node} {v : ℕ} {f : Fields} {ts : List Subtable} → Stands nodes v f ts → All (Links nodes) ts
+pub links_of_lem : LinksLead → {nodes : List Node} {v : ℕ} {f : Fields} {ts : List Subtable} → Stands nodes v f ts → AllByRecursion (Links nodes) ts
 links_of_lem lead {nodes} {v} {f} {ts} s = All-weaker (Parts nodes f.kind) (Links nodes) (links_lead lead nodes s.sound f.kind) ts (parts_of s)

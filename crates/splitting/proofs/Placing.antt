@@ -1,6 +1,6 @@
 -- Where the pieces of a subtable stand after it was cut.
 use Rattle.std.proofs.Common.{◌≡◌, ℕ, suc, ◌+◌, ◌-◌, ◌*◌, ◌<◌, ◌≤◌, Bool, cond, eqb, ◌⊎◌, List, [], ◌∷◌, ◌++◌, map, length, set, Some, None, count_by, Option, sym, refl, ap, ◌∙◌, subst, inl, inr, ⊎_elim, arith}
-use Rattle.std.specs.List.{flat_map, AllByRecursion as All}
+use Rattle.std.specs.List.{flat_map, AllByRecursion}
 use Rattle.std.proofs.lemmas.List.{append_assoc, append-nil, length-append, length-set, get_or_at, get_or-append-add, get_or_append_left, get_or-set_same, get_or-set_other, set_comm, set-append_left}
 use Rattle.std.proofs.ByRecursion.{All-append, All-set, All-weaker}
 use Rattle.std.proofs.lemmas.List.Sums.{sum_by-cons}
@@ -45,7 +45,7 @@ module _ (t : Subtable) where
   none_extended : (nodes : List Node) (v a b : ℕ) → Extended nodes (new_piece t None v a b)
   none_extended nodes v a b d same = let z : ◌≡◌ {A = ℕ} 0 1 = cc in absurd (omega arith)
 
-  none_all : (nodes : List Node) (v e a : ℕ) (ps : List ℕ) → All (Extended nodes) (new_pieces MarkToBase t v e a ps)
+  none_all : (nodes : List Node) (v e a : ℕ) (ps : List ℕ) → AllByRecursion (Extended nodes) (new_pieces MarkToBase t v e a ps)
   none_all nodes v e a [] = (none_extended nodes v a t.table.class_count, tt)
   none_all nodes v e a (p ∷ ps) = (none_extended nodes v a p, none_all nodes (v + 4) (e + 1) p ps)
 
@@ -54,7 +54,7 @@ module _ (t : Subtable) where
 
   -- each extension holds what it says, whatever stands before and behind them
   pub all_extended : (kind : LookupType) (pre post : List Node) (v e a : ℕ) (ps : List ℕ) → length pre ≡ e
-      → All (Extended (pre ++ (flat_map extension_vertex (new_pieces kind t v e a ps) ++ post))) (new_pieces kind t v e a ps)
+      → AllByRecursion (Extended (pre ++ (flat_map extension_vertex (new_pieces kind t v e a ps) ++ post))) (new_pieces kind t v e a ps)
   all_extended MarkToBase pre post v e a ps h = none_all (pre ++ (flat_map extension_vertex (new_pieces MarkToBase t v e a ps) ++ post)) v e a ps
   all_extended Extension pre post v e a [] h = (one_extended pre post e v a t.table.class_count h, tt)
   all_extended Extension pre post v e a (p ∷ ps) h =
@@ -62,7 +62,7 @@ module _ (t : Subtable) where
       let us = new_pieces Extension t (v + 4) (e + 1) p ps in
       let rest = flat_map extension_vertex us ++ post in
       let more = all_extended Extension (pre ++ x ∷ []) post (v + 4) (e + 1) p ps (omega (arith, length-append pre (x ∷ []))) in
-      (one_extended pre rest e v a p h, subst (λ xs. All (Extended xs) us) (append_assoc pre (x ∷ []) rest) more)
+      (one_extended pre rest e v a p h, subst (λ xs. AllByRecursion (Extended xs) us) (append_assoc pre (x ∷ []) rest) more)
 
 -- a number among those of n pieces
 abbrev Spot : LookupType → ℕ → ℕ → ℕ → ℕ → Type 0
@@ -70,7 +70,7 @@ Spot MarkToBase v e n u = (v ≤ u) × (u < v + 4 * n)
 Spot Extension v e n u = ((v ≤ u) × (u < v + 4 * n)) ⊎ ((e ≤ u) × (u < e + n))
 
 -- the numbers of the first, and those of the others
-first_spots : (t : Subtable) (kind : LookupType) (v e a b n : ℕ) → All (Spot kind v e (suc n)) (own_vertices (new_piece t (extension_at kind e) v a b))
+first_spots : (t : Subtable) (kind : LookupType) (v e a b n : ℕ) → AllByRecursion (Spot kind v e (suc n)) (own_vertices (new_piece t (extension_at kind e) v a b))
 first_spots t MarkToBase v e a b n = ((omega arith, omega arith), ((omega arith, omega arith), ((omega arith, omega arith), ((omega arith, omega arith), tt))))
 first_spots t Extension v e a b n =
     (inr (omega arith, omega arith), (inl (omega arith, omega arith), (inl (omega arith, omega arith), (inl (omega arith, omega arith), (inl (omega arith, omega arith), tt)))))
@@ -80,12 +80,12 @@ later_spot MarkToBase v e n u h = (omega arith, omega arith)
 later_spot Extension v e n u (inl h) = inl (omega arith, omega arith)
 later_spot Extension v e n u (inr h) = inr (omega arith, omega arith)
 
-later_spots : (kind : LookupType) (v e n : ℕ) (qs : List Subtable) → All (λ (q : Subtable). All (Spot kind (v + 4) (e + 1) n) (own_vertices q)) qs → All (λ (q : Subtable). All (Spot kind v e (suc n)) (own_vertices q)) qs
+later_spots : (kind : LookupType) (v e n : ℕ) (qs : List Subtable) → AllByRecursion (λ (q : Subtable). AllByRecursion (Spot kind (v + 4) (e + 1) n) (own_vertices q)) qs → AllByRecursion (λ (q : Subtable). AllByRecursion (Spot kind v e (suc n)) (own_vertices q)) qs
 later_spots kind v e n qs h =
     All-weaker _ _ (λ q k. All-weaker (Spot kind (v + 4) (e + 1) n) (Spot kind v e (suc n)) (later_spot kind v e n) (own_vertices q) k) qs h
 
 -- the numbers of all
-spots : (t : Subtable) (kind : LookupType) (v e a : ℕ) (ps : List ℕ) → All (λ (q : Subtable). All (Spot kind v e (suc (length ps))) (own_vertices q)) (new_pieces kind t v e a ps)
+spots : (t : Subtable) (kind : LookupType) (v e a : ℕ) (ps : List ℕ) → AllByRecursion (λ (q : Subtable). AllByRecursion (Spot kind v e (suc (length ps))) (own_vertices q)) (new_pieces kind t v e a ps)
 spots t kind v e a [] = (first_spots t kind v e a t.table.class_count 0, tt)
 spots t kind v e a (p ∷ ps) =
     (first_spots t kind v e a p (suc (length ps)), later_spots kind v e (suc (length ps)) (new_pieces kind t (v + 4) (e + 1) p ps) (spots t kind (v + 4) (e + 1) p ps))
@@ -104,7 +104,7 @@ spots_apart Extension v e n u l (inr h) (inl k) = omega arith
 spots_apart Extension v e n u l (inr h) (inr k) = omega arith
 
 -- what differs from every element is none
-not_in : (u : ℕ) (us : List ℕ) → All (λ y. y ≡ u → ⊥) us → In u us → ⊥
+not_in : (u : ℕ) (us : List ℕ) → AllByRecursion (λ y. y ≡ u → ⊥) us → In u us → ⊥
 not_in u us h i = all_in u (λ y. y ≡ u → ⊥) us h i refl
 
 four_distinct : (v : ℕ) → Distinct (v ∷ (v + 1) ∷ (v + 2) ∷ (v + 3) ∷ [])
@@ -130,7 +130,7 @@ distinct t kind v e a (p ∷ ps) l =
     let apart : (u : ℕ) → In u (own_vertices q) → In u (flat_map own_vertices us) → ⊥ =
     λ u i j.
     let r = in_joined own_vertices u us j in
-    let all = all_in r.0 (λ (q : Subtable). All (Spot kind (v + 4) (e + 1) n) (own_vertices q)) us (spots t kind (v + 4) (e + 1) p ps) r.1 in
+    let all = all_in r.0 (λ (q : Subtable). AllByRecursion (Spot kind (v + 4) (e + 1) n) (own_vertices q)) us (spots t kind (v + 4) (e + 1) p ps) r.1 in
     spots_apart kind v e n u l (all_in u (Spot kind v e 1) (own_vertices q) (first_spots t kind v e a p 0) i) (all_in u (Spot kind (v + 4) (e + 1) n) (own_vertices r.0) all r.2) in
     append_distinct (own_vertices q) (flat_map own_vertices us) (first_distinct t kind v e a p (omega arith)) (distinct t kind (v + 4) (e + 1) p ps (omega arith)) apart
 
@@ -176,14 +176,14 @@ module _ (w : Meaning) (t : Subtable) where
 
   -- each piece stands in its four, whatever stands before and behind them
   pub all_hold : (kind : LookupType) (pre post : List Node) (v e a : ℕ) (ps : List ℕ) → length pre ≡ v
-      → All (Holds w (pre ++ (flat_map (vertices w) (new_pieces kind t v e a ps) ++ post))) (new_pieces kind t v e a ps)
+      → AllByRecursion (Holds w (pre ++ (flat_map (vertices w) (new_pieces kind t v e a ps) ++ post))) (new_pieces kind t v e a ps)
   all_hold kind pre post v e a [] h = (one_holds pre post (extension_at kind e) v a t.table.class_count h, tt)
   all_hold kind pre post v e a (p ∷ ps) h =
       let q = new_piece t (extension_at kind e) v a p in
       let us = new_pieces kind t (v + 4) (e + 1) p ps in
       let rest = flat_map (vertices w) us ++ post in
       let more = all_hold kind (pre ++ vertices w q) post (v + 4) (e + 1) p ps (omega (arith, length-append pre (vertices w q))) in
-      (one_holds pre rest (extension_at kind e) v a p h, subst (λ xs. All (Holds w xs) us) (append_assoc pre (vertices w q) rest) more)
+      (one_holds pre rest (extension_at kind e) v a p h, subst (λ xs. AllByRecursion (Holds w xs) us) (append_assoc pre (vertices w q) rest) more)
 
 -- vertices written one after the other
 abbrev Writes : Type 0
@@ -207,12 +207,12 @@ written_other nodes (c ∷ cs) u h =
     written_other (set nodes c.0 c.1) cs u (λ i. h (inr i)) ∙ get_or-set_other nodes c.0 u c.1 no_node (λ e. h (inl (sym e)))
 
 -- each that is written once holds what was written
-written_at : (nodes : List Node) (cs : Writes) → Distinct (numbers cs) → All (λ u. u < length nodes) (numbers cs) → All (λ (c : ℕ × Node). node_at (written nodes cs) c.0 ≡ c.1) cs
+written_at : (nodes : List Node) (cs : Writes) → Distinct (numbers cs) → AllByRecursion (λ u. u < length nodes) (numbers cs) → AllByRecursion (λ (c : ℕ × Node). node_at (written nodes cs) c.0 ≡ c.1) cs
 written_at nodes [] d h = tt
 written_at nodes (c ∷ cs) d h =
     let nodes' = set nodes c.0 c.1 in (
       written_other nodes' cs c.0 d.0 ∙ get_or-set_same nodes c.0 c.1 no_node h.0,
-      written_at nodes' cs d.1 (subst (λ n. All (λ u. u < n) (numbers cs)) (sym (length-set nodes c.0 c.1)) h.1),
+      written_at nodes' cs d.1 (subst (λ n. AllByRecursion (λ u. u < n) (numbers cs)) (sym (length-set nodes c.0 c.1)) h.1),
     )
 
 -- a vertex that is not among them may be written before
@@ -221,7 +221,7 @@ written_before nodes [] v x h = refl
 written_before nodes (c ∷ cs) v x h =
     written_before (set nodes c.0 c.1) cs v x (λ i. h (inr i)) ∙ ap (λ xs. written xs cs) (set_comm nodes c.0 v c.1 x (λ e. h (inl e)))
 
-written_all : (P : Node → Type 0) (nodes : List Node) (cs : Writes) → All P nodes → All (λ (c : ℕ × Node). P c.1) cs → All P (written nodes cs)
+written_all : (P : Node → Type 0) (nodes : List Node) (cs : Writes) → AllByRecursion P nodes → AllByRecursion (λ (c : ℕ × Node). P c.1) cs → AllByRecursion P (written nodes cs)
 written_all P nodes [] h k = h
 written_all P nodes (c ∷ cs) h k = written_all P (set nodes c.0 c.1) cs (All-set P nodes c.0 c.1 k.0 h) k.1
 
@@ -240,11 +240,11 @@ shaped MarkToBase t v e a b = refl
 shaped Extension t v e a b = (e, refl)
 
 module _ (t : Subtable) where
-  all_shaped : (kind : LookupType) (v e a : ℕ) (ps : List ℕ) → All (Shaped kind) (new_pieces kind t v e a ps)
+  all_shaped : (kind : LookupType) (v e a : ℕ) (ps : List ℕ) → AllByRecursion (Shaped kind) (new_pieces kind t v e a ps)
   all_shaped kind v e a [] = (shaped kind t v e a t.table.class_count, tt)
   all_shaped kind v e a (p ∷ ps) = (shaped kind t v e a p, all_shaped kind (v + 4) (e + 1) p ps)
 
-  all_cover : (kind : LookupType) (v e a : ℕ) (ps : List ℕ) → All (λ (q : Subtable). q.table.base_coverage ≡ t.table.base_coverage) (new_pieces kind t v e a ps)
+  all_cover : (kind : LookupType) (v e a : ℕ) (ps : List ℕ) → AllByRecursion (λ (q : Subtable). q.table.base_coverage ≡ t.table.base_coverage) (new_pieces kind t v e a ps)
   all_cover kind v e a [] = (refl, tt)
   all_cover kind v e a (p ∷ ps) = (refl, all_cover kind (v + 4) (e + 1) p ps)
 
@@ -253,7 +253,7 @@ module _ (t : Subtable) where
   all_contents kind v e a (p ∷ ps) = ap (λ cs. piece t.contents a p ∷ cs) (all_contents kind (v + 4) (e + 1) p ps)
 
   all_formed : (kind : LookupType) (v e a : ℕ) (ps : List ℕ) → Runs (λ x y. Formed (y - x) (piece t.contents x y)) a t.table.class_count ps
-      → All (λ (q : Subtable). Formed q.table.class_count q.contents) (new_pieces kind t v e a ps)
+      → AllByRecursion (λ (q : Subtable). Formed q.table.class_count q.contents) (new_pieces kind t v e a ps)
   all_formed kind v e a [] h = (h, tt)
   all_formed kind v e a (p ∷ ps) h = (h.0, all_formed kind (v + 4) (e + 1) p ps h.1)
 
@@ -271,11 +271,11 @@ module _ (kind : LookupType) (n : ℕ) (t : Subtable) (p : ℕ) (qs : List ℕ) 
   new_once u = count_once u (flat_map own_vertices (later_pieces kind n t p qs)) new_distinct
 
   -- in type 9 they have extensions
-  pub new_shape : All (Shaped kind) (later_pieces kind n t p qs)
+  pub new_shape : AllByRecursion (Shaped kind) (later_pieces kind n t p qs)
   new_shape = all_shaped t kind n (n + 4 * (length qs + 1)) p qs
 
   -- they share the base coverage
-  pub new_cover : All (λ (q : Subtable). q.table.base_coverage ≡ t.table.base_coverage) (later_pieces kind n t p qs)
+  pub new_cover : AllByRecursion (λ (q : Subtable). q.table.base_coverage ≡ t.table.base_coverage) (later_pieces kind n t p qs)
   new_cover = all_cover t kind n (n + 4 * (length qs + 1)) p qs
 
   -- with the kept one they hold the pieces
@@ -284,7 +284,7 @@ module _ (kind : LookupType) (n : ℕ) (t : Subtable) (p : ℕ) (qs : List ℕ) 
 
   -- which are well formed
   pub new_formed : Formed t.table.class_count t.contents → Cutting 0 t.table.class_count (p ∷ qs)
-      → All (λ (q : Subtable). Formed q.table.class_count q.contents) (kept_piece t p ∷ later_pieces kind n t p qs)
+      → AllByRecursion (λ (q : Subtable). Formed q.table.class_count q.contents) (kept_piece t p ∷ later_pieces kind n t p qs)
   new_formed ok cuts =
       let h = pieces_formed t.table.class_count t.contents ok (p ∷ qs) 0 cuts in
       let same : p - 0 ≡ p = omega arith in
@@ -340,15 +340,15 @@ module _ (w : Meaning) (kind : LookupType) (nodes : List Node) (v : ℕ) (t : Su
       ∙ (get_or_append_left old (new_vertices w news) no_node u l' ∙ written_other nodes (writes w kept) u h)
 
   -- what holds of the old vertices and of all that is written holds of every vertex
-  pub all_after : (P : Node → Type 0) → All P nodes → P x → All P (vertices w kept) → All P (flat_map (vertices w) news) → All P (flat_map extension_vertex news) → All P after
+  pub all_after : (P : Node → Type 0) → AllByRecursion P nodes → P x → AllByRecursion P (vertices w kept) → AllByRecursion P (flat_map (vertices w) news) → AllByRecursion P (flat_map extension_vertex news) → AllByRecursion P after
   all_after P h k a b c =
       All-set P (old ++ new_vertices w news) v x k
       (All-append P old (new_vertices w news) (written_all P nodes (writes w kept) h a) (All-append P (flat_map (vertices w) news) (flat_map extension_vertex news) b c))
 
   -- the later pieces stand in new vertices
-  pub new_numbers : All (λ (q : Subtable). All (λ u. (length nodes ≤ u) × (u < length after)) (own_vertices q)) news
+  pub new_numbers : AllByRecursion (λ (q : Subtable). AllByRecursion (λ u. (length nodes ≤ u) × (u < length after)) (own_vertices q)) news
   new_numbers =
-      All-weaker _ (λ (q : Subtable). All (λ u. (length nodes ≤ u) × (u < length after)) (own_vertices q))
+      All-weaker _ (λ (q : Subtable). AllByRecursion (λ u. (length nodes ≤ u) × (u < length after)) (own_vertices q))
       (λ q h. All-weaker _ (λ u. (length nodes ≤ u) × (u < length after)) (λ u k. spot_new kind (length qs) (length nodes) (length after) u k long) (own_vertices q) h)
       news (spots t kind (length nodes) (length nodes + 4 * (length qs + 1)) p qs)
 
@@ -364,11 +364,11 @@ module _ (w : Meaning) (kind : LookupType) (nodes : List Node) (v : ℕ) (t : Su
     at_lookup = get_or-set_same (old ++ new_vertices w news) v x no_node (omega (arith, length-append old (new_vertices w news), old_length))
 
     -- the later pieces stand in their vertices
-    pub at_news : All (Holds w after) news
-    at_news = subst (λ xs. All (Holds w xs) news) (sym split_after) (all_hold w t kind (set old v x) (flat_map extension_vertex news) (length nodes) _ p qs front_length)
+    pub at_news : AllByRecursion (Holds w after) news
+    at_news = subst (λ xs. AllByRecursion (Holds w xs) news) (sym split_after) (all_hold w t kind (set old v x) (flat_map extension_vertex news) (length nodes) _ p qs front_length)
 
     -- and their extensions lead to them
-    pub at_extensions : All (Extended after) news
+    pub at_extensions : AllByRecursion (Extended after) news
     at_extensions =
         let fours = flat_map (vertices w) news in
         let exts = flat_map extension_vertex news in
@@ -376,9 +376,9 @@ module _ (w : Meaning) (kind : LookupType) (nodes : List Node) (v : ℕ) (t : Su
         let many = count_fours w t kind n (n + 4 * (length qs + 1)) p qs in
         let all = all_extended t kind (set old v x ++ fours) [] n (n + 4 * (length qs + 1)) p qs (omega (arith, length-append (set old v x) fours, front_length)) in
         let same : (set old v x ++ fours) ++ (exts ++ []) ≡ after = ap (λ xs. (set old v x ++ fours) ++ xs) (append-nil exts) ∙ (append_assoc (set old v x) fours exts ∙ sym split_after) in
-        subst (λ xs. All (Extended xs) news) same all
+        subst (λ xs. AllByRecursion (Extended xs) news) same all
 
-  module _ (apart : Distinct (v ∷ four_of t)) (inside : All (λ u. u < length nodes) (v ∷ four_of t)) where
+  module _ (apart : Distinct (v ∷ four_of t)) (inside : AllByRecursion (λ u. u < length nodes) (v ∷ four_of t)) where
     in_old : (u : ℕ) → In u (four_of t) → node_at after u ≡ node_at old u
     in_old u i =
         let l : u < length old = omega (arith, old_length, all_in u (λ u. u < length nodes) (four_of t) inside.1 i) in

@@ -1,6 +1,6 @@
 -- What is written of a subtable reads as the subtable, leads where it says, and is sound.
 use Rattle.std.proofs.Common.{◌≡◌, ℕ, ◌+◌, ◌<◌, true, ltb, List, [], ◌∷◌, ◌++◌, map, length, Some, None, Ok, Option, sym, refl, ap, ◌∙◌, subst, inl, inr, arith}
-use Rattle.std.specs.List.{flat_map, AllByRecursion as All}
+use Rattle.std.specs.List.{flat_map, AllByRecursion}
 use Rattle.std.proofs.lemmas.List.{length-map, map-append}
 use Rattle.std.proofs.ByRecursion.{All-append, All-map}
 use Rattle.std.proofs.lemmas.Bool.{and_parts, ltb-true}
@@ -185,12 +185,12 @@ pub lookup_read : (f : Fields) → Worded f → length f.offsets < 65536 → rea
 lookup_read f h few = (lookups_come_back f h.flag few h.filter h.filters).reads
 
 -- what holds of two lists behind each other holds of both
-all_parts : {X : Type 0} (P : X → Type 0) (xs ys : List X) → All P (xs ++ ys) → All P xs × All P ys
+all_parts : {X : Type 0} (P : X → Type 0) (xs ys : List X) → AllByRecursion P (xs ++ ys) → AllByRecursion P xs × AllByRecursion P ys
 all_parts P [] ys h = (tt, h)
 all_parts P (x ∷ xs) ys h = let r = all_parts P xs ys h.1 in ((h.0, r.0), r.1)
 
 -- what holds of each list holds of them joined
-pub all_joined : {X Y : Type 0} (P : Y → Type 0) (f : X → List Y) (xs : List X) → All (λ (x : X). All P (f x)) xs → All P (flat_map f xs)
+pub all_joined : {X Y : Type 0} (P : Y → Type 0) (f : X → List Y) (xs : List X) → AllByRecursion (λ (x : X). AllByRecursion P (f x)) xs → AllByRecursion P (flat_map f xs)
 all_joined P f [] h = tt
 all_joined P f (x ∷ xs) h = All-append P (f x) (flat_map f xs) h.0 (all_joined P f xs h.1)
 
@@ -203,17 +203,17 @@ module _ (count : ℕ) where
 
   -- the four vertices of a subtable
   pub vertices_sound : (w : Meaning) (q : Subtable)
-      → All (λ y. y < count) (q.table.mark_coverage ∷ q.table.base_coverage ∷ q.table.mark_array ∷ q.table.base_array ∷ [])
-      → All (λ y. y < count) (present (anchors q.contents)) → All (SoundVertex count) (vertices w q)
+      → AllByRecursion (λ y. y < count) (q.table.mark_coverage ∷ q.table.base_coverage ∷ q.table.mark_array ∷ q.table.base_array ∷ [])
+      → AllByRecursion (λ y. y < count) (present (anchors q.contents)) → AllByRecursion (SoundVertex count) (vertices w q)
   vertices_sound w q h k =
       let c = q.contents in
-      let both = all_parts (λ y. y < count) (present (mark_anchors c)) (present (base_anchors c)) (subst (All (λ y. y < count)) (present_append (mark_anchors c) (base_anchors c)) k) in (
+      let both = all_parts (λ y. y < count) (present (mark_anchors c)) (present (base_anchors c)) (subst (AllByRecursion (λ y. y < count)) (present_append (mark_anchors c) (base_anchors c)) k) in (
         sound_neat (subtable_neat q.table) count h,
         (
           bytes_sound (w (mark_glyphs c)),
           (
-            sound_neat (marks_neat (records c)) count (subst (All (λ y. y < count)) (sym (marks_children q)) both.0),
-            (sound_neat (bases_neat (rows c)) count (subst (All (λ y. y < count)) (sym (bases_children q)) both.1), tt),
+            sound_neat (marks_neat (records c)) count (subst (AllByRecursion (λ y. y < count)) (sym (marks_children q)) both.0),
+            (sound_neat (bases_neat (rows c)) count (subst (AllByRecursion (λ y. y < count)) (sym (bases_children q)) both.1), tt),
           ),
         ),
       )
@@ -223,13 +223,13 @@ module _ (count : ℕ) where
   extension_sound u h = sound_neat (extension_neat u) count (h, tt)
 
   -- the extension of a subtable, if it has one
-  pub extensions_sound : (q : Subtable) → q.vertex < count → All (SoundVertex count) (extension_vertex q)
+  pub extensions_sound : (q : Subtable) → q.vertex < count → AllByRecursion (SoundVertex count) (extension_vertex q)
   extensions_sound q h = go q.extension
     where
-      go : (o : Option ℕ) → All (SoundVertex count) (elim o [ None ↦ [] | Some e ↦ vertex_of (as_extension q.vertex) ∷ [] ])
+      go : (o : Option ℕ) → AllByRecursion (SoundVertex count) (elim o [ None ↦ [] | Some e ↦ vertex_of (as_extension q.vertex) ∷ [] ])
       go None = tt
       go (Some e) = (extension_sound q.vertex h, tt)
 
   -- a lookup
-  pub lookup_sound : (f : Fields) → All (λ y. y < count) f.offsets → SoundVertex count (vertex_of (as_lookup f))
-  lookup_sound f h = sound_neat (lookup_neat f) count (subst (All (λ y. y < count)) (sym (lookup_children f)) h)
+  pub lookup_sound : (f : Fields) → AllByRecursion (λ y. y < count) f.offsets → SoundVertex count (vertex_of (as_lookup f))
+  lookup_sound f h = sound_neat (lookup_neat f) count (subst (AllByRecursion (λ y. y < count)) (sym (lookup_children f)) h)

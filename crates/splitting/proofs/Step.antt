@@ -1,6 +1,6 @@
 -- One subtable of a lookup that stands is cut.
 use Rattle.std.proofs.Common.{◌≡◌, ℕ, suc, ◌+◌, ◌*◌, ◌<◌, ◌≤◌, Bool, true, eqb, ◌⊎◌, List, [], ◌∷◌, ◌++◌, map, length, set, Some, None, Ok, Option, sym, refl, ap, ◌∙◌, subst, inl, inr, arith}
-use Rattle.std.specs.List.{ContainsAt as Has, AllByRecursion as All}
+use Rattle.std.specs.List.{ContainsAt as Has, AllByRecursion}
 use Rattle.std.proofs.lemmas.List.{length-append, length-map}
 use Rattle.std.proofs.ByRecursion.{All-append, All-weaker, All-map, All-get_or, All-from_get_or}
 use Rattle.serialize.specs.Objects.{Node, no_node, node_at, incoming}
@@ -40,21 +40,21 @@ use Rattle.splitting.proofs.Apart.{own_here, t_here, there, others_apart, not_lo
 pub kids : (w : Meaning) (q : Subtable) → Kids w q
 kids w q = record { fields = fields_children q; marks = coverage_children q w; mark_records = marks_children q; base_rows = bases_children q }
 
-all_kids : (w : Meaning) (qs : List Subtable) → All (Kids w) qs
+all_kids : (w : Meaning) (qs : List Subtable) → AllByRecursion (Kids w) qs
 all_kids w [] = tt
 all_kids w (q ∷ qs) = (kids w q, all_kids w qs)
 
 -- what holds of what subtables hold
-all_contents : (P : Contents → Type 0) (qs : List Subtable) → All P (contents_of qs) → All (λ (q : Subtable). P q.contents) qs
+all_contents : (P : Contents → Type 0) (qs : List Subtable) → AllByRecursion P (contents_of qs) → AllByRecursion (λ (q : Subtable). P q.contents) qs
 all_contents P [] h = tt
 all_contents P (q ∷ qs) h = (h.0, all_contents P qs h.1)
 
-all_here : {X : Type 0} (P : X → Type 0) (xs : List X) (y : X) (ys : List X) → All P (xs ++ y ∷ ys) → P y
+all_here : {X : Type 0} (P : X → Type 0) (xs : List X) (y : X) (ys : List X) → AllByRecursion P (xs ++ y ∷ ys) → P y
 all_here P [] y ys h = h.0
 all_here P (x ∷ xs) y ys h = all_here P xs y ys h.1
 
 -- two facts of each
-both : {X : Type 0} (P Q : X → Type 0) (xs : List X) → All P xs → All Q xs → All (λ y. P y × Q y) xs
+both : {X : Type 0} (P Q : X → Type 0) (xs : List X) → AllByRecursion P xs → AllByRecursion Q xs → AllByRecursion (λ y. P y × Q y) xs
 both P Q [] a b = tt
 both P Q (y ∷ ys) a b = ((a.0, b.0), both P Q ys a.1 b.1)
 
@@ -73,7 +73,7 @@ present_in y (None ∷ os) (inl e) = let z : ◌≡◌ {A = ℕ} 0 1 = cc in abs
 present_in y (None ∷ os) (inr i) = present_in y os i
 
 -- anchors among others lead to no other vertices
-fewer_below : (n : ℕ) (os us : List (Option ℕ)) → ((o : Option ℕ) → Has os o → Has us o) → All (λ y. y < n) (present us) → All (λ y. y < n) (present os)
+fewer_below : (n : ℕ) (os us : List (Option ℕ)) → ((o : Option ℕ) → Has os o → Has us o) → AllByRecursion (λ y. y < n) (present us) → AllByRecursion (λ y. y < n) (present os)
 fewer_below n os us sub h =
     all_from_in (λ y. y < n) (present os) (λ y i. all_in y (λ z. z < n) (present us) h (present_in y us (has_in (Some y) us (sub (Some y) (in_has (Some y) os (in_present y os i))))))
 
@@ -121,13 +121,13 @@ module _ (w : Meaning) (lawful : Lawful w) (nodes : List Node) (v : ℕ) (f : Fi
   apart : Distinct (v ∷ four_of t)
   apart = distinct_four nodes v before t after o
 
-  inside : All (λ y. y < length nodes) (v ∷ four_of t)
+  inside : AllByRecursion (λ y. y < length nodes) (v ∷ four_of t)
   inside = inside_four nodes v before t after o
 
   formed : Formed t.table.class_count t.contents
   formed = all_here (λ (u : Subtable). Formed u.table.class_count u.contents) before t after s.formed
 
-  formed_parts : All (λ (q : Subtable). Formed q.table.class_count q.contents) (kept ∷ news)
+  formed_parts : AllByRecursion (λ (q : Subtable). Formed q.table.class_count q.contents) (kept ∷ news)
   formed_parts = placing.new_formed f.kind (length nodes) t p qs formed cuts
 
   holds : Kept t.table.class_count t.contents (p ∷ qs)
@@ -154,13 +154,13 @@ module _ (w : Meaning) (lawful : Lawful w) (nodes : List Node) (v : ℕ) (f : Fi
       (sum_contents (λ (c : Contents). links test (mark_anchors c)) kept news _ _ contents (holds.marks test))
       (sum_contents (λ (c : Contents). links test (base_anchors c)) kept news _ _ contents (holds.bases test))
 
-  numbers : All (λ (q : Subtable). All (λ u. (length nodes ≤ u) × (u < length nodes')) (own_vertices q)) news
+  numbers : AllByRecursion (λ (q : Subtable). AllByRecursion (λ u. (length nodes ≤ u) × (u < length nodes')) (own_vertices q)) news
   numbers = placing.new_numbers w f.kind nodes v t p qs x
 
-  above : All (λ (q : Subtable). All (λ u. length nodes ≤ u) (own_vertices q)) news
-  above = All-weaker _ (λ (q : Subtable). All (λ u. length nodes ≤ u) (own_vertices q)) (λ q h. All-weaker _ (λ u. length nodes ≤ u) (λ u k. k.0) (own_vertices q) h) news numbers
+  above : AllByRecursion (λ (q : Subtable). AllByRecursion (λ u. length nodes ≤ u) (own_vertices q)) news
+  above = All-weaker _ (λ (q : Subtable). AllByRecursion (λ u. length nodes ≤ u) (own_vertices q)) (λ q h. All-weaker _ (λ u. length nodes ≤ u) (λ u k. k.0) (own_vertices q) h) news numbers
 
-  covers : All (λ (q : Subtable). q.table.base_coverage ≡ t.table.base_coverage) news
+  covers : AllByRecursion (λ (q : Subtable). q.table.base_coverage ≡ t.table.base_coverage) news
   covers = placing.new_cover f.kind (length nodes) t p qs
 
   cover_here : In t.table.base_coverage (own v ts) → ⊥
@@ -180,22 +180,22 @@ module _ (w : Meaning) (lawful : Lawful w) (nodes : List Node) (v : ℕ) (f : Fi
       omega (arith, incoming_tally nodes' u, incoming_tally nodes u, counted (λ d. eqb d u), incoming_past nodes s.sound u l, once)
 
   abbrev Once : Subtable → Type 0
-  Once u = All (λ y. incoming nodes' y ≤ 1) (own_vertices u)
+  Once u = AllByRecursion (λ y. incoming nodes' y ≤ 1) (own_vertices u)
 
   old_once : (u : Subtable) → In u ts → Once u
   old_once u i =
       all_from_in (λ y. incoming nodes' y ≤ 1) (own_vertices u) (λ y j.
-      omega (arith, same_incoming y (own_here nodes v before t after o u y i j), all_in y (λ z. incoming nodes z ≤ 1) (own_vertices u) (all_in u (λ (z : Subtable). All (λ y. incoming nodes y ≤ 1) (own_vertices z)) ts s.once i) j))
+      omega (arith, same_incoming y (own_here nodes v before t after o u y i j), all_in y (λ z. incoming nodes z ≤ 1) (own_vertices u) (all_in u (λ (z : Subtable). AllByRecursion (λ y. incoming nodes y ≤ 1) (own_vertices z)) ts s.once i) j))
 
   -- the pieces in the place of t, and the others as they were
-  replaced : (P : Subtable → Type 0) → ((u : Subtable) → In u before ⊎ In u after → P u) → P kept → All P news → All P us
+  replaced : (P : Subtable → Type 0) → ((u : Subtable) → In u before ⊎ In u after → P u) → P kept → AllByRecursion P news → AllByRecursion P us
   replaced P others first later =
       All-append P before (kept ∷ (news ++ after)) (all_from_in P before (λ u i. others u (inl i))) (first, All-append P news after later (all_from_in P after (λ u i. others u (inr i))))
 
-  once : All Once us
+  once : AllByRecursion Once us
   once =
       replaced Once (λ u e. old_once u (there nodes v before t after o u e)) (old_once t (t_here nodes v before t after o))
-      (All-weaker (λ (q : Subtable). All (λ u. length nodes ≤ u) (own_vertices q)) Once (λ q h. All-weaker (λ u. length nodes ≤ u) (λ y. incoming nodes' y ≤ 1) new_incoming (own_vertices q) h) news above)
+      (All-weaker (λ (q : Subtable). AllByRecursion (λ u. length nodes ≤ u) (own_vertices q)) Once (λ q h. All-weaker (λ u. length nodes ≤ u) (λ y. incoming nodes' y ≤ 1) new_incoming (own_vertices q) h) news above)
 
   -- every part reads
   same_own : (u : Subtable) → In u before ⊎ In u after → (y : ℕ) → In y (own_vertices u) → node_at nodes' y ≡ node_at nodes y
@@ -231,74 +231,74 @@ module _ (w : Meaning) (lawful : Lawful w) (nodes : List Node) (v : ℕ) (f : Fi
       (bases_read kept refl (base_glyphs_lem t.contents 0 p))
 
   -- the bases of every piece are those of the whole
-  same_bases : All (λ (q : Subtable). base_glyphs q.contents ≡ base_glyphs t.contents) (kept ∷ news)
+  same_bases : AllByRecursion (λ (q : Subtable). base_glyphs q.contents ≡ base_glyphs t.contents) (kept ∷ news)
   same_bases =
       all_contents (λ (c : Contents). base_glyphs c ≡ base_glyphs t.contents) (kept ∷ news)
-      (subst (All (λ (c : Contents). base_glyphs c ≡ base_glyphs t.contents)) (sym contents) (runs_all (piece t.contents) (λ (c : Contents). base_glyphs c ≡ base_glyphs t.contents) (base_glyphs_lem t.contents) (p ∷ qs) 0 t.table.class_count))
+      (subst (AllByRecursion (λ (c : Contents). base_glyphs c ≡ base_glyphs t.contents)) (sym contents) (runs_all (piece t.contents) (λ (c : Contents). base_glyphs c ≡ base_glyphs t.contents) (base_glyphs_lem t.contents) (p ∷ qs) 0 t.table.class_count))
 
   abbrev Sure : Subtable → Type 0
   Sure q = Formed q.table.class_count q.contents × (Holds w nodes' q × (Behind nodes' f.kind q × ((q.table.base_coverage ≡ t.table.base_coverage) × (base_glyphs q.contents ≡ base_glyphs t.contents))))
 
-  news_read : All (Parts nodes' f.kind) news
+  news_read : AllByRecursion (Parts nodes' f.kind) news
   news_read =
-      let behinds : All (Behind nodes' f.kind) news =
+      let behinds : AllByRecursion (Behind nodes' f.kind) news =
       All-weaker (λ (q : Subtable). placing.Shaped f.kind q × Extended nodes' q) (Behind nodes' f.kind) (λ q h. behind_shaped nodes' f.kind q h.0 h.1) news
       (both (placing.Shaped f.kind) (Extended nodes') news (placing.new_shape f.kind (length nodes) t p qs) (placing.at_extensions w f.kind nodes v t p qs x s.here)) in
-      let sure : All Sure news =
+      let sure : AllByRecursion Sure news =
       both _ _ news formed_parts.1 (both _ _ news (placing.at_news w f.kind nodes v t p qs x s.here) (both _ _ news behinds (both _ _ news covers same_bases.1))) in
       All-weaker Sure (Parts nodes' f.kind) (λ q h. holds_parts lawful nodes' f.kind q h.0 h.1.0 h.1.1.0 (bases_read q h.1.1.1.0 h.1.1.1.1)) news sure
 
-  all_parts : All (Parts nodes' f.kind) us
+  all_parts : AllByRecursion (Parts nodes' f.kind) us
   all_parts = replaced (Parts nodes' f.kind) others_read kept_reads news_read
 
   -- every vertex is sound
   abbrev Below : Subtable → Type 0
-  Below u = All (λ y. y < length nodes') (own_vertices u)
+  Below u = AllByRecursion (λ y. y < length nodes') (own_vertices u)
 
   old_below : (u : Subtable) → In u ts → Below u
   old_below u i = all_from_in (λ y. y < length nodes') (own_vertices u) (λ y j. omega (arith, inside_own nodes v before t after o u i y j, long))
 
-  all_below : All Below us
+  all_below : AllByRecursion Below us
   all_below =
       replaced Below (λ u e. old_below u (there nodes v before t after o u e)) (old_below t (t_here nodes v before t after o))
       (All-weaker _ Below (λ q h. All-weaker _ (λ y. y < length nodes') (λ y k. k.1) (own_vertices q) h) news numbers)
 
-  tops_below : All (λ y. y < length nodes') (map top_of us)
+  tops_below : AllByRecursion (λ y. y < length nodes') (map top_of us)
   tops_below = All-map (λ y. y < length nodes') top_of us (All-weaker Below (λ (u : Subtable). top_of u < length nodes') (λ u h. all_in (top_of u) (λ y. y < length nodes') (own_vertices u) h (top_own u)) us all_below)
 
   cover_below : t.table.base_coverage < length nodes'
   cover_below = omega (arith, cover_inside nodes v before t after o t (t_here nodes v before t after o), long)
 
-  anchors_inside : All (λ (q : Subtable). (a : Option ℕ) → Has (anchors q.contents) a → Has (anchors t.contents) a) (kept ∷ news)
+  anchors_inside : AllByRecursion (λ (q : Subtable). (a : Option ℕ) → Has (anchors q.contents) a → Has (anchors t.contents) a) (kept ∷ news)
   anchors_inside =
       all_contents (λ (c : Contents). (a : Option ℕ) → Has (anchors c) a → Has (anchors t.contents) a) (kept ∷ news)
-      (subst (All (λ (c : Contents). (a : Option ℕ) → Has (anchors c) a → Has (anchors t.contents) a)) (sym contents) holds.inside)
+      (subst (AllByRecursion (λ (c : Contents). (a : Option ℕ) → Has (anchors c) a → Has (anchors t.contents) a)) (sym contents) holds.inside)
 
-  anchors_below : All (λ y. y < length nodes') (present (anchors t.contents))
+  anchors_below : AllByRecursion (λ y. y < length nodes') (present (anchors t.contents))
   anchors_below =
       All-weaker (λ y. y < length nodes) (λ y. y < length nodes') (λ y l. omega (arith, long)) (present (anchors t.contents))
-      (all_here (λ (u : Subtable). All (λ y. y < length nodes) (present (anchors u.contents))) before t after o.anchored)
+      (all_here (λ (u : Subtable). AllByRecursion (λ y. y < length nodes) (present (anchors u.contents))) before t after o.anchored)
 
-  piece_sound : (q : Subtable) → Below q → q.table.base_coverage ≡ t.table.base_coverage → ((a : Option ℕ) → Has (anchors q.contents) a → Has (anchors t.contents) a) → All (SoundVertex (length nodes')) (vertices w q)
+  piece_sound : (q : Subtable) → Below q → q.table.base_coverage ≡ t.table.base_coverage → ((a : Option ℕ) → Has (anchors q.contents) a → Has (anchors t.contents) a) → AllByRecursion (SoundVertex (length nodes')) (vertices w q)
   piece_sound q h cover sub =
       let at : (y : ℕ) → In y (four_of q) → y < length nodes' = λ y i. all_in y (λ z. z < length nodes') (own_vertices q) h (four_own q y i) in
       vertices_sound (length nodes') w q
       (at q.table.mark_coverage (inr (inl refl)), (subst (λ (b : ℕ). b < length nodes') (sym cover) cover_below, (at q.table.mark_array (inr (inr (inl refl))), (at q.table.base_array (inr (inr (inr (inl refl)))), tt))))
       (fewer_below (length nodes') (anchors q.contents) (anchors t.contents) sub anchors_below)
 
-  news_below : All Below news
+  news_below : AllByRecursion Below news
   news_below = All-weaker _ Below (λ q h. All-weaker _ (λ y. y < length nodes') (λ y k. k.1) (own_vertices q) h) news numbers
 
-  all_sound : All (SoundVertex (length nodes')) nodes'
+  all_sound : AllByRecursion (SoundVertex (length nodes')) nodes'
   all_sound =
       placing.all_after w f.kind nodes v t p qs x (SoundVertex (length nodes'))
       (All-from_get_or (SoundVertex (length nodes')) nodes no_node (λ i l. wider (length nodes) (length nodes') (omega (arith, long)) (node_at nodes i) (s.sound i l)))
       (lookup_sound (length nodes') f' tops_below)
       (piece_sound kept (old_below t (t_here nodes v before t after o)) refl anchors_inside.0)
       (all_joined (SoundVertex (length nodes')) (vertices w) news
-      (All-weaker _ (λ (q : Subtable). All (SoundVertex (length nodes')) (vertices w q)) (λ q h. piece_sound q h.0 h.1.0 h.1.1) news (both Below _ news news_below (both _ _ news covers anchors_inside.1))))
+      (All-weaker _ (λ (q : Subtable). AllByRecursion (SoundVertex (length nodes')) (vertices w q)) (λ q h. piece_sound q h.0 h.1.0 h.1.1) news (both Below _ news news_below (both _ _ news covers anchors_inside.1))))
       (all_joined (SoundVertex (length nodes')) extension_vertex news
-      (All-weaker Below (λ (q : Subtable). All (SoundVertex (length nodes')) (extension_vertex q)) (λ q h. extensions_sound (length nodes') q (all_in q.vertex (λ y. y < length nodes') (own_vertices q) h (four_own q q.vertex (inl refl)))) news news_below))
+      (All-weaker Below (λ (q : Subtable). AllByRecursion (SoundVertex (length nodes')) (extension_vertex q)) (λ q h. extensions_sound (length nodes') q (all_in q.vertex (λ y. y < length nodes') (own_vertices q) h (four_own q q.vertex (inl refl)))) news news_below))
 
   -- the lookup reads with all of them
   many : length us ≡ length ts + suc (length qs)
@@ -337,7 +337,7 @@ module _ (w : Meaning) (lawful : Lawful w) (nodes : List Node) (v : ℕ) (f : Fi
       (replaced (λ (z : Subtable). In u (own_vertices z) → In u (own v ts))
       (λ z e j. own_here nodes v before t after o z u (there nodes v before t after o z e) j)
       (λ j. own_here nodes v before t after o t u (t_here nodes v before t after o) j)
-      (All-weaker (λ (z : Subtable). All (λ y. length nodes ≤ y) (own_vertices z)) _ (λ z h j. let m = all_in u (λ y. length nodes ≤ y) (own_vertices z) h j in absurd (omega arith)) news above))
+      (All-weaker (λ (z : Subtable). AllByRecursion (λ y. length nodes ≤ y) (own_vertices z)) _ (λ z h j. let m = all_in u (λ y. length nodes ≤ y) (own_vertices z) h j in absurd (omega arith)) news above))
       q.1 q.2
 
   from_t : (q : Subtable) → q.table.base_coverage ≡ t.table.base_coverage → ((a : Option ℕ) → Has (anchors q.contents) a → Has (anchors t.contents) a) → From ts q

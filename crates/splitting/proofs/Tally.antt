@@ -1,6 +1,6 @@
 -- How many links pass a test of their child, in all vertices or in some.
 use Rattle.std.proofs.Common.{◌≡◌, ℕ, zero, suc, ◌+◌, ◌<◌, ◌≤◌, Bool, true, cond, eqb, List, [], ◌∷◌, ◌++◌, map, length, set, sum_by, count_by, sym, refl, ◌∙◌, subst, inl, inr, ⊎_elim, arith}
-use Rattle.std.specs.List.{flat_map, AllByRecursion as All}
+use Rattle.std.specs.List.{flat_map, AllByRecursion}
 use Rattle.std.proofs.lemmas.List.Sums.{sum_by-cons, sum_by-append, sum_by-set}
 use Rattle.std.proofs.lemmas.Bool.{cases_eq, cases_lt}
 use Rattle.std.proofs.lemmas.List.{get_or_past}
@@ -54,7 +54,7 @@ pub incoming_past : (nodes : List Node) → SoundObjects nodes → (w : ℕ) →
 incoming_past nodes sound w h = none_lead (all_links nodes) (length nodes) w (children_in nodes sound) h
 
 -- distinct vertices have no more links than all
-pub some_of : (test : ℕ → Bool) (nodes : List Node) (us : List ℕ) → Distinct us → All (λ u. u < length nodes) us → sum_by (λ u. count_by test (children (node_at nodes u))) us ≤ tally test nodes
+pub some_of : (test : ℕ → Bool) (nodes : List Node) (us : List ℕ) → Distinct us → AllByRecursion (λ u. u < length nodes) us → sum_by (λ u. count_by test (children (node_at nodes u))) us ≤ tally test nodes
 some_of test nodes us a b = sum_chosen (λ (x : Node). count_by test (children x)) no_node refl nodes us a b
 
 -- a link leads from u to w: w is a child of u
@@ -79,7 +79,7 @@ pub parent_in : (nodes : List Node) (u w : ℕ) → In w (children (node_at node
 parent_in nodes u w i = ⊎_elim (λ h. h) (λ h. absurd (subst (λ (x : Node). In w (children x)) (get_or_past nodes u no_node h) i)) (cases_lt u (length nodes))
 
 -- of distinct vertices with w as a child there are as many as lead to w at most
-pub parents_counted : (nodes : List Node) (w : ℕ) (us : List ℕ) → Distinct us → All (λ u. u < length nodes) us → sum_by (λ u. count_by (λ c. eqb c w) (children (node_at nodes u))) us ≤ incoming nodes w
+pub parents_counted : (nodes : List Node) (w : ℕ) (us : List ℕ) → Distinct us → AllByRecursion (λ u. u < length nodes) us → sum_by (λ u. count_by (λ c. eqb c w) (children (node_at nodes u))) us ≤ incoming nodes w
 parents_counted nodes w us a b = omega (arith, some_of (λ c. eqb c w) nodes us a b, incoming_tally nodes w)
 
 -- where no link leads there is no parent

@@ -1,6 +1,6 @@
 -- What holds after a lookup was cut or extended.
 use Rattle.std.specs.Prelude.{◌≡◌, ℕ, ◌+◌, ◌<◌, List, map, length, None, Ok}
-use Rattle.std.specs.List.{AllByRecursion as All}
+use Rattle.std.specs.List.{AllByRecursion}
 use Rattle.serialize.specs.Objects.{Node, node_at, all_links}
 use Rattle.cutting.specs.Cutting.{Cutting}
 use Rattle.coverage_writers.specs.Writing.{Lawful}
@@ -25,16 +25,16 @@ pub record Becomes (nodes nodes' : List Node) (v : ℕ) (f' : Fields) (ts us : L
   -- every pair has the hits that it had, in the same order
   pub hits : (m b : ℕ) → hits_in us m b ≡ hits_in ts m b
   -- nothing that an anchor reaches has changed
-  pub same : All (λ (t : Subtable). All (SameAnchor nodes nodes') (anchors t.contents)) ts
+  pub same : AllByRecursion (λ (t : Subtable). AllByRecursion (SameAnchor nodes nodes') (anchors t.contents)) ts
   -- each subtable has the size that it would have had before
-  pub sizes : All (λ (u : Subtable). whole_size nodes' u ≡ whole_size nodes u) us
+  pub sizes : AllByRecursion (λ (u : Subtable). whole_size nodes' u ≡ whole_size nodes u) us
   -- there are as many more vertices and links as were needed
   pub vertices : length nodes' ≡ length nodes + need.vertices
   pub links : length (all_links nodes') ≡ length (all_links nodes) + need.links
 
 -- a plan cuts subtables into runs that hold classes
 abbrev pub Cuts : Plan → Type 0
-Cuts plan = All (λ (c : Subtable × List ℕ). Cutting 0 c.0.table.class_count c.1) plan
+Cuts plan = AllByRecursion (λ (c : Subtable × List ℕ). Cutting 0 c.0.table.class_count c.1) plan
 
 -- cutting: any lawful writer, any plan for the subtables, while vertices can be counted in a word
 abbrev pub CuttingStands : Type 0

@@ -1,6 +1,6 @@
 -- The worked examples, as rows of one table.
 use Rattle.std.specs.Prelude.{◌≡◌, ℕ, List, [], ◌∷◌, ◌++◌, map, length, Some, None, Ok, Err, Option, Result}
-use Rattle.std.specs.List.{AllByRecursion as All}
+use Rattle.std.specs.List.{AllByRecursion}
 use Rattle.refusal.specs.declared.Shortage.TheVariants.{Vertices, Links, Bytes}
 use Rattle.refusal.specs.declared.Refusal.{Refusal}
 use Rattle.refusal.specs.declared.Refusal.TheVariants.{NoSubtable, BadReach, ClassTooLarge, NoRoom, AlreadyExtended}
@@ -54,7 +54,7 @@ pub record Shows (g : Model) (sizes : List ℕ) (vertices links mark : ℕ) (sho
   pub vertices_are : length g.nodes ≡ vertices
   pub links_are : length (all_links g.nodes) ≡ links
   pub mark_is : g.mark ≡ mark
-  pub shown_are : All (λ (s : ℕ × Node). node_at g.nodes s.0 ≡ s.1) shown
+  pub shown_are : AllByRecursion (λ (s : ℕ × Node). node_at g.nodes s.0 ≡ s.1) shown
 
 -- a row holds
 abbrev pub Holds : Row → Type 0

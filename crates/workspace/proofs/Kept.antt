@@ -1,6 +1,6 @@
 -- While a lookup is open, no history changes the model.
 use Rattle.std.proofs.Common.{◌≡◌, ℕ, false, List, [], ◌∷◌, Some, None, Ok, Err, Option, Result, sym, refl, ap, ◌∙◌, subst, arith}
-use Rattle.std.specs.List.{AllByRecursion as All}
+use Rattle.std.specs.List.{AllByRecursion}
 use Rattle.refusal.specs.declared.Refusal.{Refusal}
 use Rattle.refusal.specs.declared.Refusal.TheVariants.{LookupOpen}
 use Rattle.serialize.specs.Objects.{Node}
@@ -38,7 +38,7 @@ same_anchor : (nodes : List Node) (o : Option ℕ) → SameAnchor nodes nodes o
 same_anchor nodes None = tt
 same_anchor nodes (Some v) = λ w. ((λ r. (r, refl)), λ r. r)
 
-each : {X : Type 0} (P : X → Type 0) → ((x : X) → P x) → (xs : List X) → All P xs
+each : {X : Type 0} (P : X → Type 0) → ((x : X) → P x) → (xs : List X) → AllByRecursion P xs
 each P p [] = tt
 each P p (x ∷ xs) = (p x, each P p xs)
 

@@ -1,6 +1,6 @@
 -- Histories of calls, and what every history keeps.
 use Rattle.std.specs.Prelude.{◌≡◌, ℕ, Bool, true, false, List, [], ◌∷◌, Some, None, Ok, Err, Option, Result}
-use Rattle.std.specs.List.{AllByRecursion as All}
+use Rattle.std.specs.List.{AllByRecursion}
 use Rattle.refusal.specs.declared.Refusal.{Refusal}
 use Rattle.serialize.specs.Objects.{Node, node_at}
 use Rattle.walk.specs.Reach.{Reach}
@@ -60,7 +60,7 @@ SameHit nodes nodes' h = SameAnchor nodes nodes' h.mark × SameAnchor nodes node
 -- a pair of glyphs has the same hits in the same order, and `attach` answers the same
 pub record SamePair (m m' : Model) (mark base : ℕ) : Type 0 where
   pub hits : hits_of m' mark base ≡ hits_of m mark base
-  pub same : All (SameHit m.graph.nodes m'.graph.nodes) (hits_of m mark base)
+  pub same : AllByRecursion (SameHit m.graph.nodes m'.graph.nodes) (hits_of m mark base)
   pub attach : attach_of m' mark base ≡ attach_of m mark base
 
 -- every history from a model keeps every pair

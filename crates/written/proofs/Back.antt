@@ -4,7 +4,7 @@ use Rattle.std.proofs.lemmas.List.{append_assoc, append-nil, length-append, leng
 use Rattle.std.proofs.ByRecursion.{All-weaker}
 use Rattle.std.proofs.lemmas.Bool.{le-leb, leb-true, eq-eqb, lt-ltb}
 use Rattle.std.proofs.lemmas.Bool.Decides.{nat_tests}
-use Rattle.std.specs.List.{AllByRecursion as All}
+use Rattle.std.specs.List.{AllByRecursion}
 use Rattle.serialize.specs.declared.link.Link.{Link}
 use Rattle.serialize.specs.declared.link.LinkWidth.{LinkWidth}
 use Rattle.serialize.specs.declared.link.LinkWidth.TheVariants.{Two, Four}
@@ -107,7 +107,7 @@ also_back a back = record {
 }
 
 -- each of a list
-pub times_back : {A : Type 0} (r : Reader A) (f : A → Written) (as' : List A) → All (λ a. Back r a (f a)) as' → Back (times (length as') r) as' (each f as')
+pub times_back : {A : Type 0} (r : Reader A) (f : A → Written) (as' : List A) → AllByRecursion (λ a. Back r a (f a)) as' → Back (times (length as') r) as' (each f as')
 times_back r f [] all = record {
   reads = λ p bs ls e. rw (add-zero p);
   starts = λ p ls e. rw (add-zero p) at e;
@@ -122,7 +122,7 @@ whole_back {r = r} {x = x} back =
     ap ended f
 
 -- what holds of everything holds of the elements
-pub all_of : {A : Type 0} (P : A → Type 0) (as' : List A) → ((a : A) → P a) → All P as'
+pub all_of : {A : Type 0} (P : A → Type 0) (as' : List A) → ((a : A) → P a) → AllByRecursion P as'
 all_of P [] f = tt
 all_of P (a ∷ as') f = (f a, all_of P as' f)
 
@@ -131,7 +131,7 @@ pub mark_back : (k : ℕ) → k ≤ 65536 → (m : ℕ × Option ℕ) → m.0 < 
 mark_back k small m h = then_back (allowed_back (λ c. ltb c k) m.0 (omega arith) (lt-ltb m.0 k h)) _ (last_back (nullable_back m.1) (λ anchor. (m.0, anchor)))
 
 -- mark arrays
-pub marks_back : (k : ℕ) (ms : List (ℕ × Option ℕ)) → k ≤ 65536 → length ms < 65536 → All (λ m. m.0 < k) ms → Back (mark_array_reader (length ms) k) ms (as_mark_array ms)
+pub marks_back : (k : ℕ) (ms : List (ℕ × Option ℕ)) → k ≤ 65536 → length ms < 65536 → AllByRecursion (λ m. m.0 < k) ms → Back (mark_array_reader (length ms) k) ms (as_mark_array ms)
 marks_back k ms small few h =
     then_back (allowed_back (eqb (length ms)) (length ms) few (eq-eqb (length ms) (length ms) refl)) _
     (times_back (mark k) as_mark ms (All-weaker (λ m. m.0 < k) (λ m. Back (mark k) m (as_mark m)) (mark_back k small) ms h))
@@ -141,7 +141,7 @@ pub row_back : (k : ℕ) (row : List (Option ℕ)) → length row ≡ k → Back
 row_back k row h = rw (← h) (times_back nullable as_nullable row (all_of (λ o. Back nullable o (as_nullable o)) row nullable_back))
 
 -- base arrays
-pub bases_back : (k : ℕ) (rows : List (List (Option ℕ))) → length rows < 65536 → All (λ row. length row ≡ k) rows → Back (base_array_reader (length rows) k) rows (as_base_array rows)
+pub bases_back : (k : ℕ) (rows : List (List (Option ℕ))) → length rows < 65536 → AllByRecursion (λ row. length row ≡ k) rows → Back (base_array_reader (length rows) k) rows (as_base_array rows)
 bases_back k rows few h =
     then_back (allowed_back (eqb (length rows)) (length rows) few (eq-eqb (length rows) (length rows) refl)) _
     (times_back (times k nullable) (each as_nullable) rows (All-weaker (λ row. length row ≡ k) (λ row. Back (times k nullable) row (each as_nullable row)) (row_back k) rows h))
@@ -170,12 +170,12 @@ typed MarkToBase = (omega arith, refl)
 typed Extension = (omega arith, refl)
 
 -- what follows the offsets of a lookup
-filter_back : (l : Fields) (kind : LookupType) → kind ≡ l.kind → All (λ w. w < 65536) l.filter → length l.filter ≡ filters l.flag
+filter_back : (l : Fields) (kind : LookupType) → kind ≡ l.kind → AllByRecursion (λ w. w < 65536) l.filter → length l.filter ≡ filters l.flag
     → Back (times (filters l.flag) word ⟫ λ filter. give record { kind = kind; flag = l.flag; offsets = l.offsets; filter = filter }) l (each as_word l.filter)
 filter_back l kind e small h = rw (← h, e) (last_back (times_back word as_word l.filter (All-weaker (λ w. w < 65536) (λ w. Back word w (as_word w)) word_back l.filter small)) _)
 
 -- lookups
-pub lookup_back : (l : Fields) → l.flag < 65536 → length l.offsets < 65536 → All (λ w. w < 65536) l.filter → length l.filter ≡ filters l.flag → Back lookup l (as_lookup l)
+pub lookup_back : (l : Fields) → l.flag < 65536 → length l.offsets < 65536 → AllByRecursion (λ w. w < 65536) l.filter → length l.filter ≡ filters l.flag → Back lookup l (as_lookup l)
 lookup_back l flag few small h =
     let t = typed l.kind in
     then_back (allowed_back (λ w. is_some (type_from w)) (type_word l.kind) t.0 (ap is_some t.1)) _

@@ -1,7 +1,7 @@
 -- The tables that are written, read back and sound.
 use Rattle.std.proofs.Common.{◌≡◌, ℕ, suc, ◌+◌, ◌<◌, List, [], ◌∷◌, sym, subst, arith}
 use Rattle.std.proofs.ByRecursion.{All-weaker}
-use Rattle.std.specs.List.{AllByRecursion as All}
+use Rattle.std.specs.List.{AllByRecursion}
 use Rattle.walk.specs.Computed.{children}
 use Rattle.fields.specs.Fields.{Reader}
 use Rattle.written.specs.Writing.{Written, vertex_of}
@@ -34,7 +34,7 @@ pub lookups_come_back : LookupsComeBack
 lookups_come_back l flag few small h = comes (lookup_back l flag few small h) (lookup_neat l)
 
 -- some number is above all of a list
-above : (cs : List ℕ) → (n : ℕ) × All (λ c. c < n) cs
+above : (cs : List ℕ) → (n : ℕ) × AllByRecursion (λ c. c < n) cs
 above [] = (0, tt)
 above (c ∷ cs) =
     let o = above cs in
@@ -46,5 +46,5 @@ module _ {A : Type 0} {r : Reader A} {a : A} {x : Written} (back : ReadsAs r a x
   written_leads = let o = above (children (vertex_of x)) in lead o.0 (vertex_of x) (back.sound o.0 o.1) a back.reads
 
   -- and is sound wherever those are vertices
-  pub written_sound : (count : ℕ) → All (λ c. c < count) (targets a) → SoundVertex count (vertex_of x)
-  written_sound count h = back.sound count (subst (All (λ c. c < count)) (sym written_leads) h)
+  pub written_sound : (count : ℕ) → AllByRecursion (λ c. c < count) (targets a) → SoundVertex count (vertex_of x)
+  written_sound count h = back.sound count (subst (AllByRecursion (λ c. c < count)) (sym written_leads) h)

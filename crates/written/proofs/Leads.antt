@@ -3,7 +3,7 @@ use Rattle.std.proofs.Common.{◌≡◌, ℕ, zero, suc, ◌+◌, ◌<◌, ◌�
 use Rattle.std.proofs.lemmas.List.{append_assoc, append-nil, length-drop}
 use Rattle.std.proofs.ByRecursion.{All-from_get_or}
 use Rattle.std.proofs.lemmas.Bool.{lt-leb, eqb-true}
-use Rattle.std.specs.List.{flat_map, AllByRecursion as All}
+use Rattle.std.specs.List.{flat_map, AllByRecursion}
 use Rattle.serialize.specs.declared.link.Link.{Link}
 use Rattle.serialize.specs.declared.link.LinkWidth.{LinkWidth}
 use Rattle.serialize.specs.declared.link.LinkWidth.TheVariants.{Two, Three, Four}
@@ -161,7 +161,7 @@ passed true a p e = refl
 passed false a p e = absurd (not_ok e)
 
 -- no link starts at q or later
-from_none : (q : ℕ) (ls : List Link) → All (λ l. l.position < q) ls → from q ls ≡ []
+from_none : (q : ℕ) (ls : List Link) → AllByRecursion (λ l. l.position < q) ls → from q ls ≡ []
 from_none q [] h = refl
 from_none q (l ∷ ls) h = ap (λ b. cond b (l ∷ ls) (from q ls)) (lt-leb q l.position h.0) ∙ from_none q ls h.1
 
@@ -175,7 +175,7 @@ whole_leads {A} {r} {targets} sends count x sound a e =
     let s = (sends bs ls sound.0).goes 0 a t (ap r (sym (start_seek bs ls)) ∙ o.1) in
     let empty = eqb-true (length t.bytes) 0 (passed (eqb (length t.bytes) 0) a t.place (sym (ap ended o.1) ∙ e)) in
     let past : length bs ≤ s.0 = omega (arith, length-drop s.0 bs, ap (λ (s : Rest). length s.bytes) s.1) in
-    let low : All (λ l. l.position < s.0) ls = All-from_get_or (λ (l : Link). l.position < s.0) ls no_link (λ i h. omega (arith, (sound.1 i h).1, wide (link_at ls i).width)) in
+    let low : AllByRecursion (λ l. l.position < s.0) ls = All-from_get_or (λ (l : Link). l.position < s.0) ls no_link (λ i h. omega (arith, (sound.1 i h).1, wide (link_at ls i).width)) in
     let none : leads t.links ≡ [] = ap (λ (s : Rest). leads s.links) s.1 ∙ ap leads (from_none s.0 ls low) in
     ap (λ (s : Rest). leads s.links) (start_seek bs ls) ∙ s.2 ∙ ap (λ l. targets a ++ l) none ∙ append-nil (targets a)
 

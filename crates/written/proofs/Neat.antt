@@ -2,7 +2,7 @@
 use Rattle.std.proofs.Common.{◌≡◌, ℕ, zero, suc, ◌+◌, ◌<◌, ◌≤◌, true, List, [], ◌∷◌, ◌++◌, map, length, take, drop, replicate, Some, None, Option, sym, refl, ap, ◌∙◌, subst, add-zero, add_assoc, arith}
 use Rattle.std.proofs.lemmas.List.{append_assoc, append-nil, length-append, length-replicate, drop_at, take_at}
 use Rattle.std.proofs.ByRecursion.{All-get_or, All-append}
-use Rattle.std.specs.List.{AllByRecursion as All}
+use Rattle.std.specs.List.{AllByRecursion}
 use Rattle.serialize.specs.declared.link.Link.{Link}
 use Rattle.serialize.specs.declared.link.LinkWidth.{LinkWidth}
 use Rattle.serialize.specs.declared.link.LinkWidth.TheVariants.{Two, Four}
@@ -26,7 +26,7 @@ Inside bytes l = (end_of l ≤ length bytes) × (zeros (field_of bytes l) ≡ tr
 -- wherever x stands, and whatever stands around it, its links are apart and inside
 pub record Neat (x : Written) : Type 0 where
   pub spaced : (p : ℕ) (ls : List Link) → Apart (p + length x.bytes) ls → Apart p (x.links p ++ ls)
-  pub within : (pre post : List ℕ) → All (Inside (pre ++ (x.bytes ++ post))) (x.links (length pre))
+  pub within : (pre post : List ℕ) → AllByRecursion (Inside (pre ++ (x.bytes ++ post))) (x.links (length pre))
 
 -- links that are apart from b on are so from a on
 apart_sooner : (a b : ℕ) (ls : List Link) → a ≤ b → Apart b ls → Apart a ls
@@ -64,9 +64,9 @@ both_neat {x} {y} one two = record {
       rw (append_assoc (x.links p) (y.links (p + length x.bytes)) ls) (one.spaced p (y.links (p + length x.bytes) ++ ls) (two.spaced (p + length x.bytes) ls f));
   within = λ pre post.
       let all = pre ++ ((x.bytes ++ y.bytes) ++ post) in
-      let first : All (Inside all) (x.links (length pre)) = rw (append_assoc x.bytes y.bytes post) (one.within pre (y.bytes ++ post)) in
+      let first : AllByRecursion (Inside all) (x.links (length pre)) = rw (append_assoc x.bytes y.bytes post) (one.within pre (y.bytes ++ post)) in
       let moved : (pre ++ x.bytes) ++ (y.bytes ++ post) ≡ all = append_assoc pre x.bytes (y.bytes ++ post) ∙ ap (λ l. pre ++ l) (sym (append_assoc x.bytes y.bytes post)) in
-      let second : All (Inside all) (y.links (length pre + length x.bytes)) = rw (← moved, ← length-append pre x.bytes) (two.within (pre ++ x.bytes) post) in
+      let second : AllByRecursion (Inside all) (y.links (length pre + length x.bytes)) = rw (← moved, ← length-append pre x.bytes) (two.within (pre ++ x.bytes) post) in
       All-append (Inside all) (x.links (length pre)) (y.links (length pre + length x.bytes)) first second;
 }
 
@@ -118,15 +118,15 @@ ascends p (l ∷ ls) h zero (suc j) a b = behind (end_of l) ls h.1 j (omega arit
 ascends p (l ∷ ls) h (suc i) (suc j) a b = ascends (end_of l) ls h.1 i j (omega arith) (omega arith)
 
 -- what holds of the images
-all_mapped : {X Y : Type 0} (P : X → Type 0) (f : Y → X) (ys : List Y) → All P (map f ys) → All (λ y. P (f y)) ys
+all_mapped : {X Y : Type 0} (P : X → Type 0) (f : Y → X) (ys : List Y) → AllByRecursion P (map f ys) → AllByRecursion (λ y. P (f y)) ys
 all_mapped P f [] h = tt
 all_mapped P f (y ∷ ys) h = (h.0, all_mapped P f ys h.1)
 
 -- a vertex that holds just this
-pub sound_neat : {x : Written} → Neat x → (count : ℕ) → All (λ c. c < count) (children (vertex_of x)) → SoundVertex count (vertex_of x)
+pub sound_neat : {x : Written} → Neat x → (count : ℕ) → AllByRecursion (λ c. c < count) (children (vertex_of x)) → SoundVertex count (vertex_of x)
 sound_neat {x} neat count lead =
     let ls = x.links 0 in
-    let inside : All (Inside x.bytes) ls = rw (append-nil x.bytes) at (neat.within [] []) in
+    let inside : AllByRecursion (Inside x.bytes) ls = rw (append-nil x.bytes) at (neat.within [] []) in
     let below = all_mapped (λ c. c < count) (λ (l : Link). l.child) ls lead in (
       ascends 0 ls (rw (append-nil ls) at (neat.spaced 0 [] tt)),
       λ i h.

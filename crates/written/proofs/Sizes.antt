@@ -2,14 +2,14 @@
 use Rattle.std.proofs.Common.{◌≡◌, ℕ, ◌*◌, List, [], ◌∷◌, length, Some, None, Option, sym, refl, ap, ◌∙◌, mul_assoc, mul_comm, mul-zero, mul-suc, arith}
 use Rattle.std.proofs.lemmas.List.{length-append}
 use Rattle.std.proofs.ByRecursion.{All-weaker}
-use Rattle.std.specs.List.{AllByRecursion as All}
+use Rattle.std.specs.List.{AllByRecursion}
 use Rattle.serialize.specs.declared.link.LinkWidth.TheVariants.{Two}
 use Rattle.written.specs.Writing.{Written, each, as_word, as_offset, as_nullable, as_mark}
 use Rattle.written.specs.Laws.{Lengths}
 use Rattle.written.proofs.Back.{all_of}
 
 -- as many as there are, of w bytes each
-pub each_long : {A : Type 0} (f : A → Written) (w : ℕ) (as' : List A) → All (λ a. length (f a).bytes ≡ w) as' → length (each f as').bytes ≡ w * length as'
+pub each_long : {A : Type 0} (f : A → Written) (w : ℕ) (as' : List A) → AllByRecursion (λ a. length (f a).bytes ≡ w) as' → length (each f as').bytes ≡ w * length as'
 each_long f w [] h = sym (mul-zero w)
 each_long f w (a ∷ as') h = length-append (f a).bytes (each f as').bytes ∙ omega (arith, h.0, each_long f w as' h.1, mul-suc w (length as'))
 

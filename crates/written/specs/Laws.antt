@@ -1,6 +1,6 @@
 -- Reading undoes writing, and links lead where the values say.
 use Rattle.std.specs.Prelude.{◌≡◌, ℕ, ◌+◌, ◌*◌, ◌<◌, ◌≤◌, List, [], ◌∷◌, map, length, Ok, Option}
-use Rattle.std.specs.List.{flat_map, AllByRecursion as All}
+use Rattle.std.specs.List.{flat_map, AllByRecursion}
 use Rattle.serialize.specs.Objects.{Node, Ascends, LinksFit}
 use Rattle.walk.specs.Computed.{children}
 use Rattle.fields.specs.Fields.{Reader}
@@ -18,15 +18,15 @@ SoundVertex count x = Ascends x.links × LinksFit count x
 -- what is written reads as the value, and is sound wherever its links lead to vertices
 pub record ReadsAs {A : Type 0} (r : Reader A) (a : A) (x : Written) : Type 0 where
   pub reads : read r (vertex_of x) ≡ Ok a
-  pub sound : (count : ℕ) → All (λ c. c < count) (children (vertex_of x)) → SoundVertex count (vertex_of x)
+  pub sound : (count : ℕ) → AllByRecursion (λ c. c < count) (children (vertex_of x)) → SoundVertex count (vertex_of x)
 
 -- mark arrays: classes below the class count, and fewer marks than a word can count
 abbrev pub MarksComeBack : Type 0
-MarksComeBack = (k : ℕ) (ms : List (ℕ × Option ℕ)) → k ≤ 65536 → length ms < 65536 → All (λ m. m.0 < k) ms → ReadsAs (mark_array_reader (length ms) k) ms (as_mark_array ms)
+MarksComeBack = (k : ℕ) (ms : List (ℕ × Option ℕ)) → k ≤ 65536 → length ms < 65536 → AllByRecursion (λ m. m.0 < k) ms → ReadsAs (mark_array_reader (length ms) k) ms (as_mark_array ms)
 
 -- base arrays: an anchor or a null for each class
 abbrev pub BasesComeBack : Type 0
-BasesComeBack = (k : ℕ) (rows : List (List (Option ℕ))) → length rows < 65536 → All (λ row. length row ≡ k) rows → ReadsAs (base_array_reader (length rows) k) rows (as_base_array rows)
+BasesComeBack = (k : ℕ) (rows : List (List (Option ℕ))) → length rows < 65536 → AllByRecursion (λ row. length row ≡ k) rows → ReadsAs (base_array_reader (length rows) k) rows (as_base_array rows)
 
 -- subtables: at least one class
 abbrev pub SubtablesComeBack : Type 0
@@ -38,7 +38,7 @@ ExtensionsComeBack = (child : ℕ) → ReadsAs extension (record { subtable = ch
 
 -- lookups: a mark filtering set exactly where the flag says so
 abbrev pub LookupsComeBack : Type 0
-LookupsComeBack = (l : Fields) → l.flag < 65536 → length l.offsets < 65536 → All (λ w. w < 65536) l.filter → length l.filter ≡ filters l.flag → ReadsAs lookup l (as_lookup l)
+LookupsComeBack = (l : Fields) → l.flag < 65536 → length l.offsets < 65536 → AllByRecursion (λ w. w < 65536) l.filter → length l.filter ≡ filters l.flag → ReadsAs lookup l (as_lookup l)
 
 -- whatever vertex reads so, its links lead to just these vertices, in this order
 abbrev pub LeadsTo : {A : Type 0} → Reader A → (A → List ℕ) → Type 0
@@ -55,7 +55,7 @@ pub record LinksLead : Type 0 where
 -- how long the tables are
 pub record Lengths : Type 0 where
   pub marks : (ms : List (ℕ × Option ℕ)) → length (as_mark_array ms).bytes ≡ 2 + 4 * length ms
-  pub bases : (k : ℕ) (rows : List (List (Option ℕ))) → All (λ row. length row ≡ k) rows → length (as_base_array rows).bytes ≡ 2 + 2 * length rows * k
+  pub bases : (k : ℕ) (rows : List (List (Option ℕ))) → AllByRecursion (λ row. length row ≡ k) rows → length (as_base_array rows).bytes ≡ 2 + 2 * length rows * k
   pub table : (t : MarkBasePosFormat1) → length (as_subtable t).bytes ≡ 12
   pub behind : (child : ℕ) → length (as_extension child).bytes ≡ 8
   pub lookups : (l : Fields) → length (as_lookup l).bytes ≡ 6 + 2 * length l.offsets + 2 * length l.filter
