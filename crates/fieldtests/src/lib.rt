@@ -6,6 +6,6 @@ mod arrays;
 #[cfg(test)]
 mod cases;
 #[cfg(test)]
-mod lookups;
+mod lookup;
 #[cfg(test)]
 mod tables;

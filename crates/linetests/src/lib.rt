@@ -202,13 +202,13 @@ mod tests {
             class: 0,
         };
         let refused = refused_line(rt.alloc(), b"S 0 45", class)?;
-        assert_eq!(rt; refused.as_slice(), b"S 0 45 refused 12 0 0\n");
+        assert_eq!(rt; refused.as_slice(), b"S 0 45 refused 12 0 0\n".as_slice());
         let bytes = refused_line(rt.alloc(), &[255, 10], Refusal::BadFile)?;
-        assert_eq!(rt; bytes.as_slice(), b"\xff\n refused 1\n");
+        assert_eq!(rt; bytes.as_slice(), b"\xff\n refused 1\n".as_slice());
         let done = done_line(rt.alloc(), b"O 0", 1)?;
-        assert_eq!(rt; done.as_slice(), b"O 0 done 1\n");
+        assert_eq!(rt; done.as_slice(), b"O 0 done 1\n".as_slice());
         let unknown = unknown_line(rt.alloc())?;
-        assert_eq!(rt; unknown.as_slice(), b"?\n");
+        assert_eq!(rt; unknown.as_slice(), b"?\n".as_slice());
         Ok(())
     }
 }
