@@ -1,9 +1,9 @@
 -- Histories of calls, and what every history keeps.
-use Rattle.std.specs.Prelude.{◌≡◌, ℕ, ◌+◌, ◌≤◌, Bool, true, false, List, [], ◌∷◌, ◌++◌, length, Ok, Err, Option, Result}
+use Rattle.std.specs.Prelude.{◌≡◌, ℕ, ◌+◌, ◌^◌, ◌<◌, ◌≤◌, Bool, true, false, List, [], ◌∷◌, ◌++◌, length, Ok, Err, Option, Result, slice_index}
 use Rattle.std.specs.List.{AllByRecursion}
 use Rattle.refusal.specs.declared.Refusal.{Refusal}
 use Rattle.refusal.specs.declared.Refusal.TheVariants.{ClassTooLarge}
-use Rattle.serialize.specs.Objects.{Node}
+use Rattle.serialize.specs.Objects.{Node, bytes_at, SoundObjects}
 use Rattle.fields.specs.Laws.{Iff}
 use Rattle.cutting.specs.Cutting.{Cutting, Fits, NoneFits}
 use Rattle.coverage_writers.specs.Writing.{Lawful}
@@ -108,3 +108,9 @@ pub record Keeps (m : Model) : Type 0 where
 abbrev pub OpenKeeps : Result ℕ Refusal → Model → Type 0
 OpenKeeps (Ok n) m = Keeps m
 OpenKeeps (Err e) m = Unit {0}
+
+-- the law holds in all sound objects whose bytes are bytes, while vertices can be counted in a word
+abbrev pub HistoriesKeep : Type 0
+HistoriesKeep =
+    (m : Model) → SoundObjects m.graph.nodes → ((u i : ℕ) → slice_index (bytes_at m.graph.nodes u) i < 256) → m.graph.capacity.vertices < 2 ^ 16
+    → (v : ℕ) (r : Result ℕ Refusal) (m' : Model) → Opens m v r m' → OpenKeeps r m'

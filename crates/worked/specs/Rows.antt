@@ -7,7 +7,7 @@ use Rattle.refusal.specs.declared.Refusal.TheVariants.{NoSubtable, BadReach, Cla
 use Rattle.serialize.specs.Objects.{Node, node_at, all_links}
 use Rattle.graph.specs.Model.{Model}
 use Rattle.coverage_writers.specs.Formats.{bytes_of, table_meaning}
-use Rattle.splitting.specs.Cuts.{Plan, whole_size}
+use Rattle.splitting.specs.Cuts.{whole_size}
 use Rattle.splitting.specs.Leaving.{new_count}
 use Rattle.splitting.specs.Needs.{byte_count}
 use Rattle.splitting.specs.Calls.{subtables_at, split_plan, split_all_plan, cut_by, split_refusal, split_all_refusal, extend_refusal, extended}

@@ -3,7 +3,6 @@ use Rattle.fields.specs.Fields.{word, offset, nullable}
 use Rattle.walk.specs.Computed.{reached}
 use Rattle.markbase.specs.LookupTypes.{type_from}
 use Rattle.pieces.specs.Sizes.{size}
-use Rattle.worked.specs.Rows.{Shows}
 use Rattle.worked.proofs.rows_hold.Goals as goal
 
 pub returns : goal.returns
