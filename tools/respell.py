@@ -6,7 +6,8 @@ usage: python3 tools/respell.py [--check] [FOLDER]
 Reads tools/respell.tsv, a line for each name: old, a tab, new. Turns whole words in the .rt and .antt files below FOLDER/crates
 (FOLDER is the repository by default), but for text in quotes in .rt files. All words turn at once, so a name can take the place of
 another that turns too. --check writes nothing.
-It is run once, on what /opt/rattle/port/port.py leaves.
+It was run once, on what /opt/rattle/port/port.py left; a second run would do harm, since some old names are new names of others. It stays to
+show which name became which.
 """
 import os
 import re

@@ -7,8 +7,8 @@ use Rattle.layout.proofs.Rows.{Rows}
 use Rattle.layout.proofs.Tables.{table}
 use Rattle.coverage_writers.specs.Writing.{ascends}
 use Rattle.coverage_writers.specs.Laws.{ReadsAscending}
-use Rattle.coverage_writers.specs.Writes.{ascends_next}
-use Rattle.coverage_writers.specs.Runs.{ascends_parts}
+use Rattle.coverage_writers.proofs.Writes.{ascends_next}
+use Rattle.coverage_writers.proofs.Runs.{ascends_parts}
 
 ascends_weaker : (gs : List ℕ) (m low : ℕ) → low ≤ m → ascends m gs ≡ true → ascends low gs ≡ true
 ascends_weaker [] m low a h = refl

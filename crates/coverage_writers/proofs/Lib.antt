@@ -1,1 +1,3 @@
 pub mod Ascends
+pub mod Runs
+pub mod Writes

@@ -1,5 +1,4 @@
 pub mod Formats
 pub mod Laws
 pub mod Writing
-pub mod Writes
-pub mod Runs
+pub mod WriterLaws

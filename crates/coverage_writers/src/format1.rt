@@ -1,7 +1,7 @@
 // Format 1: a list of glyphs.
 ghost use Rattle.std.specs.Prelude.{◌≡◌, ◌+◌, ◌*◌, ◌<◌, ◌≤◌, ◌++◌, length, drop};
 ghost use Rattle.coverage_writers.specs.Formats.{format1, meaning1};
-ghost use Rattle.coverage_writers.specs.Writes.{meaning1-means, meaning1-none};
+ghost use Rattle.coverage_writers.specs.WriterLaws.{meaning1-means, meaning1-none};
 
 use crate::writer::{CoverageWriter, is_listed, put_word};
 

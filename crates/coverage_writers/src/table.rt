@@ -2,7 +2,7 @@
 ghost use Rattle.std.specs.Prelude.{◌≡◌, ◌≤◌, true, ◌++◌, length, drop};
 ghost use Rattle.coverage_writers.specs.Writing.{listed};
 ghost use Rattle.coverage_writers.specs.Formats.{table_of, table_meaning};
-ghost use Rattle.coverage_writers.specs.Runs.{table_meaning-means, table_meaning-none};
+ghost use Rattle.coverage_writers.specs.WriterLaws.{table_meaning-means, table_meaning-none};
 
 use crate::format1::{list_length, put_glyphs};
 use crate::format2::CoverageFormat2;

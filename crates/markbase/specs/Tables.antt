@@ -10,13 +10,13 @@ use Rattle.markbase.specs.declared.extension.ExtensionSubtable.{ExtensionSubtabl
 
 -- the fields of a subtable as one value
 abbrev pub table : ℕ → ℕ → ℕ → ℕ → ℕ → MarkBasePosFormat1
-table marks bases classes mark_array_reader base_array_reader = record { mark_coverage = marks; base_coverage = bases; class_count = classes; mark_array = mark_array_reader; base_array = base_array_reader }
+table marks bases classes mark_array base_array = record { mark_coverage = marks; base_coverage = bases; class_count = classes; mark_array = mark_array; base_array = base_array }
 
 -- part 1: format 1, both coverages, at least one class, both arrays
 abbrev pub subtable : Reader MarkBasePosFormat1
 subtable =
-    allowed (nat_eq 1) ⟫ λ format. offset Two ⟫ λ marks. offset Two ⟫ λ bases. allowed (nat_le 1) ⟫ λ classes. offset Two ⟫ λ mark_array_reader. offset Two ⟫ λ base_array_reader.
-    give (table marks bases classes mark_array_reader base_array_reader)
+    allowed (nat_eq 1) ⟫ λ format. offset Two ⟫ λ marks. offset Two ⟫ λ bases. allowed (nat_le 1) ⟫ λ classes. offset Two ⟫ λ mark_array. offset Two ⟫ λ base_array.
+    give (table marks bases classes mark_array base_array)
 
 -- part 0: format 1, type 4, and the subtable
 abbrev pub extension : Reader ExtensionSubtable

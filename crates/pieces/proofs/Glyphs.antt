@@ -4,8 +4,8 @@ use Rattle.std.proofs.lemmas.List.{length-map}
 use Rattle.std.proofs.lemmas.List.Sums.{length-filter, count_by-le-length}
 use Rattle.std.proofs.lemmas.Bool.{and_parts, and_from, ltb-true, lt-ltb, eqb-true, ne_eqb, cond-true, cond-false, cond_both}
 use Rattle.coverage_writers.specs.Writing.{ascends, listed}
-use Rattle.coverage_writers.specs.Writes.{ascends_next}
-use Rattle.coverage_writers.specs.Runs.{ascends_parts}
+use Rattle.coverage_writers.proofs.Writes.{ascends_next}
+use Rattle.coverage_writers.proofs.Runs.{ascends_parts}
 use Rattle.markbase.specs.Hits.{find}
 
 -- f of what is there, if it is

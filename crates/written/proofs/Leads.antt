@@ -137,8 +137,8 @@ module _ {bs : List ℕ} {ls : List Link} where
         (λ marks. then_sends (offset_sends Two)
         (λ bases. then_sends (allowed_sends (leb 1))
         (λ classes. then_sends (offset_sends Two)
-        (λ mark_array_reader. then_sends (offset_sends Two)
-        (λ base_array_reader. give_sends (table marks bases classes mark_array_reader base_array_reader) refl))))))
+        (λ mark_array. then_sends (offset_sends Two)
+        (λ base_array. give_sends (table marks bases classes mark_array base_array) refl))))))
 
     -- extensions
     pub extension_sends : Sends bs ls [] extension (λ x. x.subtable ∷ [])

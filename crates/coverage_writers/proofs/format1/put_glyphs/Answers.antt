@@ -1,7 +1,7 @@
 use Rattle.std.proofs.Common.{◌≡◌, ℕ, ◌+◌, ◌*◌, List, [], ◌∷◌, ◌++◌, length, get_or, take, drop, sym, refl, ap, ◌∙◌, arith}
 use Rattle.std.proofs.lemmas.List.{take_more, take_all, length-take-le}
 use Rattle.coverage_writers.specs.Formats.{bytes_of}
-use Rattle.coverage_writers.specs.Writes.{put_next, drop_past}
+use Rattle.coverage_writers.proofs.Writes.{put_next, drop_past}
 use Rattle.coverage_writers.proofs.format1.put_glyphs.Goals as goal
 
 pub loop-glyph-preserved : goal.loop-glyph-preserved

@@ -1,6 +1,6 @@
 use Rattle.std.proofs.Common.{◌≡◌, ◌+◌, [], ◌∷◌, ◌++◌, take, drop, refl, ap, ◌∙◌, arith}
 use Rattle.coverage_writers.specs.Formats.{word_bytes, bytes_of}
-use Rattle.coverage_writers.specs.Runs.{block_more}
+use Rattle.coverage_writers.proofs.Runs.{block_more}
 use Rattle.coverage_writers.proofs.format2.put_range.Goals as goal
 
 pub returns : goal.returns

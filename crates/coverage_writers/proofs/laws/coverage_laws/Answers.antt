@@ -1,7 +1,7 @@
 use Rattle.std.proofs.Common.{refl}
-use Rattle.coverage_writers.specs.Writes.{lawful_means}
+use Rattle.coverage_writers.proofs.Writes.{lawful_means}
 use Rattle.coverage_writers.proofs.Ascends.{reads_ascending}
-use Rattle.coverage_writers.specs.Runs.{maximal}
+use Rattle.coverage_writers.proofs.Runs.{maximal}
 use Rattle.coverage_writers.proofs.laws.coverage_laws.Goals as goal
 
 pub returns : goal.returns

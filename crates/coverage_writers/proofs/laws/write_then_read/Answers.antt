@@ -1,5 +1,5 @@
 use Rattle.std.proofs.Common.{◌≡◌, ℕ, arith}
-use Rattle.coverage_writers.specs.Writes.{lawful_means, write_back, slice_back, count_back}
+use Rattle.coverage_writers.proofs.Writes.{lawful_means, write_back, slice_back, count_back}
 use Rattle.coverage_writers.proofs.laws.write_then_read.Goals as goal
 
 pub returns-in_err-table : goal.returns-in_err-table

@@ -1,7 +1,8 @@
 use Rattle.std.proofs.Common.{◌+◌, ◌*◌, length, ap, arith}
 use Rattle.coverage_writers.specs.Formats.{format1, format2}
-use Rattle.coverage_writers.specs.Writes.{length-format1}
-use Rattle.coverage_writers.specs.Runs.{length-format2, table_first, table_second, table_put, listed_few}
+use Rattle.coverage_writers.specs.WriterLaws.{length-format1}
+use Rattle.coverage_writers.specs.WriterLaws.{length-format2, table_first, table_second}
+use Rattle.coverage_writers.proofs.Runs.{table_put, listed_few}
 use Rattle.coverage_writers.proofs.table.put_table.Goals as goal
 
 pub put_glyphs-requires : goal.put_glyphs-requires

@@ -1,6 +1,6 @@
 use Rattle.std.proofs.Common.{length, sym, ap, ◌∙◌, arith}
-use Rattle.coverage_writers.specs.Writes.{length-format1}
-use Rattle.coverage_writers.specs.Runs.{length-format2, table_first, table_second}
+use Rattle.coverage_writers.specs.WriterLaws.{length-format1}
+use Rattle.coverage_writers.specs.WriterLaws.{length-format2, table_first, table_second}
 use Rattle.coverage_writers.proofs.table.table_length.Goals as goal
 
 pub returns-then-glyphs-ranges : goal.returns-then-glyphs-ranges

@@ -1,7 +1,7 @@
 use Rattle.std.proofs.Common.{◌+◌, ◌&&◌, ltb, length, get_or, drop, sym, ap, ◌∙◌, arith}
 use Rattle.std.proofs.lemmas.List.{at_drop_more, at_drop_all}
 use Rattle.coverage_writers.specs.Writing.{ascends}
-use Rattle.coverage_writers.specs.Writes.{ascends_low, ascends_next}
+use Rattle.coverage_writers.proofs.Writes.{ascends_low, ascends_next}
 use Rattle.coverage_writers.proofs.writer.is_listed.Goals as goal
 
 pub returns-then-from-low : goal.returns-then-from-low

@@ -1,4 +1,4 @@
-use Rattle.coverage_writers.specs.Writes.{put_two}
+use Rattle.coverage_writers.proofs.Writes.{put_two}
 use Rattle.coverage_writers.proofs.writer.put_word.Goals as goal
 
 pub returns : goal.returns

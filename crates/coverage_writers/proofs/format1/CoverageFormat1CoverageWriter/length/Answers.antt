@@ -1,5 +1,5 @@
 use Rattle.std.proofs.Common.{◌∙◌, rules}
-use Rattle.coverage_writers.specs.Writes.{at_length_of}
+use Rattle.coverage_writers.proofs.Writes.{at_length_of}
 use Rattle.coverage_writers.proofs.format1.CoverageFormat1CoverageWriter.length.Goals as goal
 
 pub returns-then-is_listed : goal.returns-then-is_listed

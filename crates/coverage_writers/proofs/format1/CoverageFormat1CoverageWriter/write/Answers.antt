@@ -1,6 +1,7 @@
 use Rattle.std.proofs.Common.{sym, arith}
 use Rattle.coverage_writers.specs.Formats.{format1, meaning1}
-use Rattle.coverage_writers.specs.Writes.{meaning1-some, length-format1, wrote_short, wrote_all}
+use Rattle.coverage_writers.specs.WriterLaws.{meaning1-some, length-format1}
+use Rattle.coverage_writers.proofs.Writes.{wrote_short, wrote_all}
 use Rattle.coverage_writers.proofs.format1.CoverageFormat1CoverageWriter.write.Goals as goal
 
 pub returns-then-out-list_length : goal.returns-then-out-list_length

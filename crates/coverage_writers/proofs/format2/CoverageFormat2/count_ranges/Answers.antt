@@ -2,7 +2,7 @@ use Rattle.std.proofs.Common.{◌+◌, ◌-◌, ◌<◌, length, take, drop, ap,
 use Rattle.std.proofs.lemmas.List.{at_drop_all, take_rest}
 use Rattle.std.proofs.lemmas.Slice.{first_rest}
 use Rattle.coverage_writers.specs.Formats.{runs_from, runs}
-use Rattle.coverage_writers.specs.Runs.{count_same, count_new, rest_read}
+use Rattle.coverage_writers.proofs.Runs.{count_same, count_new, rest_read}
 use Rattle.coverage_writers.proofs.format2.CoverageFormat2.count_ranges.Goals as goal
 use Rattle.coverage_writers.proofs.format2.CoverageFormat2.count_ranges.Goals.{then-from, else-from}
 

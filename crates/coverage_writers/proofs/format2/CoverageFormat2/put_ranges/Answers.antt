@@ -1,7 +1,8 @@
 use Rattle.std.proofs.Common.{◌≡◌, ℕ, ◌+◌, ◌-◌, ◌*◌, ◌<◌, List, ◌++◌, length, take, drop, sym, refl, ap, ◌∙◌, subst, arith, rules}
 use Rattle.std.proofs.lemmas.Slice.{first_rest}
 use Rattle.coverage_writers.specs.Formats.{bytes_of, range_words, runs_from, runs, format2}
-use Rattle.coverage_writers.specs.Runs.{Along, along_past, along_anew, along_end, length-format2, header, listed_parts, ascends_on, range_room, range_same, range_new, range_last}
+use Rattle.coverage_writers.specs.WriterLaws.{length-format2}
+use Rattle.coverage_writers.proofs.Runs.{Along, along_past, along_anew, along_end, header, listed_parts, ascends_on, range_room, range_same, range_new, range_last}
 use Rattle.coverage_writers.proofs.format2.CoverageFormat2.put_ranges.Goals as goal
 use Rattle.coverage_writers.proofs.format2.CoverageFormat2.put_ranges.Goals.{then-from, else-from}
 

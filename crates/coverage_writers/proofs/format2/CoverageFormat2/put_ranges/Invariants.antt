@@ -1,7 +1,7 @@
 use Rattle.std.proofs.Common.{◌≡◌, ◌+◌, ◌<◌, ◌≤◌, true, drop}
 use Rattle.coverage_writers.specs.Writing.{ascends}
 use Rattle.coverage_writers.specs.Formats.{bytes_of, runs_from, range_words, format2}
-use Rattle.coverage_writers.specs.Runs.{Along}
+use Rattle.coverage_writers.proofs.Runs.{Along}
 use Rattle.coverage_writers.proofs.format2.CoverageFormat2.put_ranges.Given as goal
 
 abbrev pub invariant-loop-glyph : goal.invariant-loop-glyph

@@ -1,13 +1,13 @@
 -- Words in a buffer, and what is read back of them.
-use Rattle.std.specs.Prelude.{◌≡◌, ℕ, zero, suc, ◌+◌, ◌-◌, ◌*◌, ◌/◌, ◌%◌, ◌<◌, ◌≤◌, true, false, ◌&&◌, List, [], ◌∷◌, ◌++◌, length, take, drop, Some, None, Ok, Option, nat_le, nat_lt, slice_set, refl}
+use Rattle.std.specs.Prelude.{◌≡◌, ℕ, zero, suc, ◌+◌, ◌-◌, ◌*◌, ◌<◌, ◌≤◌, true, false, ◌&&◌, List, [], ◌∷◌, ◌++◌, length, take, drop, Some, None, Ok, Option, nat_le, nat_lt, slice_set, refl}
 use Rattle.std.proofs.Common.{sym, ap, subst, ◌∙◌, append_assoc, arith, ⊎_elim}
 use Rattle.std.proofs.lemmas.List.{drop-drop, drop_at, take_at, flat_map_more}
-use Rattle.std.proofs.lemmas.Bool.{cases_Bool, le-leb, lt-leb, lt-ltb, ltb-true, leb-true, and_parts, cond-true, cond-false}
-use Rattle.layout.specs.Format.{Read, word, field, allowed, also, glyphs, read_coverage}
+use Rattle.std.proofs.lemmas.Bool.{cases_Bool, le-leb, lt-leb, lt-ltb, leb-true, cond-true, cond-false}
+use Rattle.layout.specs.Format.{read_coverage}
 use Rattle.coverage_writers.specs.Writing.{ascends, listed, Means, Lawful, length_of, accepts, written}
-use Rattle.coverage_writers.specs.Formats.{word_bytes, bytes_of, format1, meaning1}
+use Rattle.coverage_writers.specs.Formats.{word_bytes, bytes_of, meaning1}
 use Rattle.layout.specs.Lookup.{given, covered}
-use Rattle.layout.proofs.Steps.{glyph_then}
+use Rattle.coverage_writers.specs.WriterLaws.{length-bytes_of, length-format1, meaning1-some}
 
 put_both : (xs : List ℕ) (at a b : ℕ) → suc at < length xs → slice_set (slice_set xs at a) (suc at) b ≡ take at xs ++ (a ∷ b ∷ drop (suc (suc at)) xs)
 put_both [] at a b h = absurd (omega arith)
@@ -22,10 +22,6 @@ put_two xs at a b h =
     let two : at + 2 ≡ suc (suc at) = omega arith in
     rw (one, two) (put_both xs at a b (omega arith))
 
-pub length-bytes_of : (ws : List ℕ) → length (bytes_of ws) ≡ 2 * length ws
-length-bytes_of [] = refl
-length-bytes_of (w ∷ ws) = omega (arith, length-bytes_of ws)
-
 -- one word more at the end of those that stand in the buffer
 pub put_next : (ws old cur : List ℕ) (at w : ℕ) → at ≡ 2 * length ws → cur ≡ bytes_of ws ++ drop at old → take at cur ++ (word_bytes w ++ drop (at + 2) cur) ≡ bytes_of (ws ++ w ∷ []) ++ drop (at + 2) old
 put_next ws old cur at w here is =
@@ -33,38 +29,6 @@ put_next ws old cur at w here is =
     let front = ap (take at) is ∙ take_at (bytes_of ws) (drop at old) at long in
     let back = sym (drop-drop 2 at cur) ∙ ap (drop 2) (ap (drop at) is ∙ drop_at (bytes_of ws) (drop at old) at long) ∙ drop-drop 2 at old in
     (λ i. front i ++ (word_bytes w ++ back i)) ∙ sym (append_assoc (bytes_of ws) (word_bytes w) (drop (at + 2) old)) ∙ ap (λ l. l ++ drop (at + 2) old) (flat_map_more word_bytes [] ws w)
-
-whole : (w : ℕ) → w < 65536 → word (w / 256 % 256) (w % 256) ≡ w
-whole w h = omega arith
-
-pub field_word : (p : ℕ) (next : ℕ → List ℕ → Read) (w : ℕ) (bs : List ℕ) → w < 65536 → field p next (word_bytes w ++ bs) ≡ next w bs
-field_word p next w bs h = ap (λ v. next v bs) (whole w h)
-
-pub glyphs_back : (gs : List ℕ) (low p : ℕ) → ascends low gs ≡ true → glyphs (length gs) low p (bytes_of gs) ≡ Ok gs
-glyphs_back [] low p h = refl
-glyphs_back (g ∷ gs) low p h =
-    let a = and_parts (nat_le low g) (nat_lt g 65536 && ascends (g + 1) gs) h in
-    let b = and_parts (nat_lt g 65536) (ascends (g + 1) gs) a.1 in
-    field_word p (glyph_then (length gs) low p) g (bytes_of gs) (ltb-true g 65536 b.0)
-    ∙ ap (λ t. allowed t p (also (g ∷ []) (glyphs (length gs) (g + 1) (p + 2) (bytes_of gs)))) a.0
-    ∙ ap (also (g ∷ [])) (glyphs_back gs (g + 1) (p + 2) b.1)
-
-pub format1_back : (gs : List ℕ) → listed gs ≡ true → read_coverage (format1 gs) ≡ Ok gs
-format1_back gs h =
-    let a = and_parts (ascends 0 gs) (nat_lt (length gs) 65536) h in
-    field_word 2 (λ n rest. glyphs n 0 4 rest) (length gs) (bytes_of gs) (ltb-true (length gs) 65536 a.1) ∙ glyphs_back gs 0 4 a.0
-
-pub length-format1 : (gs : List ℕ) → length (format1 gs) ≡ 4 + 2 * length gs
-length-format1 gs = omega (arith, length-bytes_of gs)
-
-pub meaning1-some : (gs : List ℕ) → listed gs ≡ true → meaning1 gs ≡ Some (format1 gs)
-meaning1-some gs h = cond-true (listed gs) (Some (format1 gs)) None h
-
-pub meaning1-none : (gs : List ℕ) → listed gs ≡ false → meaning1 gs ≡ None
-meaning1-none gs h = cond-false (listed gs) (Some (format1 gs)) None h
-
-pub meaning1-means : (gs : List ℕ) → listed gs ≡ true → Means gs (meaning1 gs)
-meaning1-means gs h = subst (Means gs) (sym (meaning1-some gs h)) (omega (arith, length-format1 gs), format1_back gs h)
 
 pub ascends_low : (low g : ℕ) (gs : List ℕ) → g < low → ascends low (g ∷ gs) ≡ false
 ascends_low low g gs h = ap (λ t. t && (nat_lt g 65536 && ascends (g + 1) gs)) (lt-leb low g h)

@@ -1,21 +1,14 @@
 -- Runs of consecutive glyphs: how many, what is read back of them, and a buffer that is filled along a plan.
-use Rattle.std.specs.Prelude.{◌≡◌, ℕ, zero, suc, ◌+◌, ◌-◌, ◌*◌, ◌<◌, ◌≤◌, true, false, ◌&&◌, List, [], ◌∷◌, ◌++◌, length, take, drop, Some, None, Ok, ◌==◌, ◌≢◌, nat_le, nat_lt, slice_index, refl}
-use Rattle.std.proofs.Common.{sym, ap, subst, ◌∙◌, ⊎_elim, append_assoc, arith, length-append, length-drop, take-append-drop}
-use Rattle.std.proofs.lemmas.List.{drop_more, take_rest, get_or-drop, drop-drop, drop_at, take_at, length-take-le, take_all, drop_all}
+use Rattle.std.specs.Prelude.{◌≡◌, ℕ, suc, ◌+◌, ◌-◌, ◌*◌, ◌<◌, ◌≤◌, true, ◌&&◌, List, [], ◌∷◌, ◌++◌, length, take, drop, nat_le, nat_lt, refl, ◌≢◌, slice_index}
+use Rattle.std.proofs.Common.{sym, ap, subst, ◌∙◌, append_assoc, arith, ⊎_elim, length-append, length-drop, take-append-drop}
+use Rattle.std.proofs.lemmas.List.{drop-drop, drop_at, take_at, drop_more, take_rest, get_or-drop, length-take-le, take_all, drop_all}
+use Rattle.std.proofs.lemmas.Bool.{ltb-true, leb-true, and_parts, cases_eq}
+use Rattle.layout.specs.Format.{run}
+use Rattle.coverage_writers.specs.Writing.{ascends, listed}
+use Rattle.coverage_writers.specs.Formats.{word_bytes, bytes_of, runs_from, runs, range_words, format2, table_of}
 use Rattle.std.proofs.lemmas.Slice.{first_rest}
-use Rattle.std.proofs.lemmas.Bool.{cases_eq, cases_lt, le-leb, lt-leb, leb-true, ltb-true, eq-eqb, ne_eqb, and_parts, cond-true, cond-false}
-use Rattle.layout.specs.Format.{field, allowed, also, run, ranges, read_coverage}
-use Rattle.coverage_writers.specs.Writing.{ascends, listed, Means}
-use Rattle.coverage_writers.specs.Formats.{word_bytes, bytes_of, format1, runs_from, runs, range_words, format2, table_of, table_meaning}
 use Rattle.coverage_writers.specs.Laws.{Apart, spread, MaximalRuns}
-use Rattle.layout.proofs.Steps.{start_then, end_then, index_then, allowed_so}
-use Rattle.coverage_writers.specs.Writes.{length-bytes_of, length-format1, field_word, format1_back}
-
-pub runs_same : (s e g : ℕ) (gs : List ℕ) → g ≡ e + 1 → runs_from s e (g ∷ gs) ≡ runs_from s g gs
-runs_same s e g gs h = cond-true (g == e + 1) (runs_from s g gs) ((s, e) ∷ runs_from g g gs) (eq-eqb g (e + 1) h)
-
-pub runs_new : (s e g : ℕ) (gs : List ℕ) → (g ≢ e + 1) → runs_from s e (g ∷ gs) ≡ (s, e) ∷ runs_from g g gs
-runs_new s e g gs h = cond-false (g == e + 1) (runs_from s g gs) ((s, e) ∷ runs_from g g gs) (ne_eqb g (e + 1) h)
+use Rattle.coverage_writers.specs.WriterLaws.{grown, length-bytes_of, length-format2, length-range_words, run_one, runs_new, runs_same}
 
 -- how many runs there are does not rest on where the first starts
 pub runs_length : (gs : List ℕ) (s t e : ℕ) → length (runs_from s e gs) ≡ length (runs_from t e gs)
@@ -24,91 +17,6 @@ runs_length (g ∷ gs) s t e =
     ⊎_elim (λ h. ap length (runs_same s e g gs h) ∙ runs_length gs s t g ∙ sym (ap length (runs_same t e g gs h)))
     (λ h. ap length (runs_new s e g gs h) ∙ sym (ap length (runs_new t e g gs h)))
     (cases_eq g (e + 1))
-
-pub length-range_words : (rs : List (ℕ × ℕ)) (seen : ℕ) → length (range_words seen rs) ≡ 3 * length rs
-length-range_words [] seen = refl
-length-range_words (r ∷ rs) seen = omega (arith, length-range_words rs (seen + (r.1 + 1 - r.0)))
-
-pub length-format2 : (gs : List ℕ) → length (format2 gs) ≡ 4 + 6 * length (runs gs)
-length-format2 gs = omega (arith, length-bytes_of (range_words 0 (runs gs)), length-range_words (runs gs) 0)
-
--- one range, read from its three words
-range_word : (n low seen p s e : ℕ) (rest : List ℕ) → low ≤ s → s ≤ e → e < 65536 → seen < 65536 → ranges (suc n) low seen p (word_bytes s ++ (word_bytes e ++ (word_bytes seen ++ rest))) ≡ also (run s (e + 1 - s)) (ranges n (e + 1) (seen + (e + 1 - s)) (p + 6) rest)
-range_word n low seen p s e rest a b c d =
-    let third = word_bytes seen ++ rest in
-    let second = word_bytes e ++ third in
-    field_word p (start_then n low seen p) s second (omega arith) ∙ allowed_so low s p (field (p + 2) (end_then n seen p s) second) a
-    ∙ field_word (p + 2) (end_then n seen p s) e third c ∙ allowed_so s e (p + 2) (field (p + 4) (index_then n seen p s e) third) b
-    ∙ field_word (p + 4) (index_then n seen p s e) seen rest d
-    ∙ ap (λ t. allowed t (p + 4) (also (run s (e + 1 - s)) (ranges n (e + 1) (seen + (e + 1 - s)) (p + 6) rest))) (eq-eqb seen seen refl)
-
-run_push : (n s : ℕ) → run s (suc n) ≡ run s n ++ (s + n) ∷ []
-run_push zero s = let z : s ≡ s + 0 = omega arith in ap (λ x. x ∷ []) z
-run_push (suc n) s = let z : s + 1 + n ≡ s + suc n = omega arith in ap (λ l. s ∷ l) (run_push n (s + 1) ∙ ap (λ x. run (s + 1) n ++ x ∷ []) z)
-
-run_one : (g k : ℕ) → k ≡ 1 → run g k ≡ g ∷ []
-run_one g k e = ap (run g) e
-
-grown : (s e g : ℕ) (gs : List ℕ) → s ≤ e → g ≡ e + 1 → run s (g + 1 - s) ++ gs ≡ run s (e + 1 - s) ++ (g ∷ gs)
-grown s e g gs a h =
-    let z : g + 1 - s ≡ suc (e + 1 - s) = omega arith in
-    let y : s + (e + 1 - s) ≡ g = omega arith in
-    ap (λ k. run s k ++ gs) z ∙ ap (λ l. l ++ gs) (run_push (e + 1 - s) s ∙ ap (λ x. run s (e + 1 - s) ++ x ∷ []) y) ∙ append_assoc (run s (e + 1 - s)) (g ∷ []) gs
-
-pub ranges_back : (gs : List ℕ) (s e low seen p : ℕ) → low ≤ s → s ≤ e → e < 65536 → seen ≤ low → ascends (e + 1) gs ≡ true → ranges (length (runs_from s e gs)) low seen p (bytes_of (range_words seen (runs_from s e gs))) ≡ Ok (run s (e + 1 - s) ++ gs)
-ranges_back [] s e low seen p a b c d h = range_word 0 low seen p s e [] a b c (omega arith)
-ranges_back (g ∷ gs) s e low seen p a b c d h =
-    let one = and_parts (nat_le (e + 1) g) (nat_lt g 65536 && ascends (g + 1) gs) h in
-    let two = and_parts (nat_lt g 65536) (ascends (g + 1) gs) one.1 in
-    let above = leb-true (e + 1) g one.0 in
-    let small = ltb-true g 65536 two.0 in
-    ⊎_elim
-    (λ x.
-    ap (λ rs. ranges (length rs) low seen p (bytes_of (range_words seen rs))) (runs_same s e g gs x)
-    ∙ ranges_back gs s g low seen p a (omega arith) small d two.1 ∙ ap Ok (grown s e g gs b x))
-    (λ x.
-    let k : g + 1 - g ≡ 1 = omega arith in
-    ap (λ rs. ranges (length rs) low seen p (bytes_of (range_words seen rs))) (runs_new s e g gs x)
-    ∙ range_word (length (runs_from g g gs)) low seen p s e (bytes_of (range_words (seen + (e + 1 - s)) (runs_from g g gs))) a b c (omega arith)
-    ∙ ap (also (run s (e + 1 - s))) (ranges_back gs g g (e + 1) (seen + (e + 1 - s)) (p + 6) above (omega arith) small (omega arith) two.1 ∙ ap (λ l. Ok (l ++ gs)) (run_one g (g + 1 - g) k)))
-    (cases_eq g (e + 1))
-
-runs_back : (gs : List ℕ) → ascends 0 gs ≡ true → ranges (length (runs gs)) 0 0 4 (bytes_of (range_words 0 (runs gs))) ≡ Ok gs
-runs_back [] h = refl
-runs_back (g ∷ gs) h =
-    let one = and_parts (nat_le 0 g) (nat_lt g 65536 && ascends (g + 1) gs) h in
-    let two = and_parts (nat_lt g 65536) (ascends (g + 1) gs) one.1 in
-    let k : g + 1 - g ≡ 1 = omega arith in
-    ranges_back gs g g 0 0 4 (omega arith) (omega arith) (ltb-true g 65536 two.0) (omega arith) two.1 ∙ ap (λ l. Ok (l ++ gs)) (run_one g (g + 1 - g) k)
-
-pub format2_back : (gs : List ℕ) → listed gs ≡ true → length (runs gs) < 65536 → read_coverage (format2 gs) ≡ Ok gs
-format2_back gs h few =
-    let a = and_parts (ascends 0 gs) (nat_lt (length gs) 65536) h in
-    field_word 2 (λ n rest. ranges n 0 0 4 rest) (length (runs gs)) (bytes_of (range_words 0 (runs gs))) few ∙ runs_back gs a.0
-
-pub table_first : (gs : List ℕ) → length gs ≤ 3 * length (runs gs) → table_of gs ≡ format1 gs
-table_first gs h = cond-true (nat_le (length gs) (3 * length (runs gs))) (format1 gs) (format2 gs) (le-leb (length gs) (3 * length (runs gs)) h)
-
-pub table_second : (gs : List ℕ) → 3 * length (runs gs) < length gs → table_of gs ≡ format2 gs
-table_second gs h = cond-false (nat_le (length gs) (3 * length (runs gs))) (format1 gs) (format2 gs) (lt-leb (length gs) (3 * length (runs gs)) h)
-
-table_means : (gs : List ℕ) → listed gs ≡ true → Means gs (Some (table_of gs))
-table_means gs h =
-    let a = and_parts (ascends 0 gs) (nat_lt (length gs) 65536) h in
-    let few = ltb-true (length gs) 65536 a.1 in
-    ⊎_elim
-    (λ x. subst (λ b. Means gs (Some b)) (sym (table_second gs x)) (omega (arith, length-format2 gs), format2_back gs h (omega arith)))
-    (λ x. subst (λ b. Means gs (Some b)) (sym (table_first gs x)) (omega (arith, length-format1 gs), format1_back gs h))
-    (cases_lt (3 * length (runs gs)) (length gs))
-
-pub table_meaning-some : (gs : List ℕ) → listed gs ≡ true → table_meaning gs ≡ Some (table_of gs)
-table_meaning-some gs h = cond-true (listed gs) (Some (table_of gs)) None h
-
-pub table_meaning-none : (gs : List ℕ) → listed gs ≡ false → table_meaning gs ≡ None
-table_meaning-none gs h = cond-false (listed gs) (Some (table_of gs)) None h
-
-pub table_meaning-means : (gs : List ℕ) → listed gs ≡ true → Means gs (table_meaning gs)
-table_meaning-means gs h = subst (Means gs) (sym (table_meaning-some gs h)) (table_means gs h)
 
 -- one block of bytes written behind another
 pub block_more : (o cur B C : List ℕ) (at n m : ℕ) → n ≡ at + length B → n ≤ length o → cur ≡ take at o ++ (B ++ drop n o) → take n cur ++ (C ++ drop (n + m) cur) ≡ take at o ++ ((B ++ C) ++ drop (n + m) o)
