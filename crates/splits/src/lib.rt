@@ -3,7 +3,7 @@
 
 ghost use Rattle.splits.specs.Histories.{HistoriesKeep};
 
-/// After every `open` that is done, whatever calls follow: every pair keeps its hits, `split` is refused by 12 exactly if no cutting fits, and a done `split` leaves as few pieces as can be.
+/// After every `open` that is done, whatever calls follow up to a done `close` or `load`: every pair keeps its hits, `split` with a valid place and reach is refused by 12 exactly if no cutting fits, and a done `split` leaves as few pieces as can be.
 pub fn histories_keep()
     ensures { HistoriesKeep }
 {}

@@ -1,12 +1,12 @@
 -- What is read from bytes is well formed.
-use Rattle.std.proofs.Common.{◌≡◌, ℕ, zero, suc, ◌+◌, ◌<◌, ◌≤◌, Bool, true, false, cond, eqb, ltb, leb, List, [], ◌∷◌, map, length, get_or, take, drop, is_some, Some, None, Ok, Err, Option, Result, unwrap_or, sym, refl, ap, ◌∙◌, subst, ⊎_elim, arith}
-use Rattle.std.proofs.lemmas.List.{get_or-take, get_or-drop, get_or_past, length-take}
-use Rattle.std.proofs.lemmas.Bool.{eqb-true, leb-true, ltb-true, lt-ltb, cases_lt, and_from}
+use Rattle.std.proofs.Common.{◌≡◌, ℕ, zero, suc, ◌+◌, ◌<◌, Bool, true, false, cond, eqb, ltb, leb, List, [], ◌∷◌, map, length, get_or, drop, is_some, Some, None, Ok, Err, Option, Result, unwrap_or, sym, refl, ap, ◌∙◌, subst, ⊎_elim, arith}
+use Rattle.std.proofs.lemmas.List.{get_or-drop}
+use Rattle.std.proofs.lemmas.Bool.{eqb-true, leb-true, ltb-true, lt-ltb, and_from}
 use Rattle.std.specs.List.{AllByRecursion}
 use Rattle.serialize.specs.declared.link.Link.{Link}
 use Rattle.serialize.specs.declared.link.LinkWidth.{LinkWidth}
 use Rattle.serialize.specs.declared.link.LinkWidth.TheVariants.{Two}
-use Rattle.serialize.specs.Objects.{Node, node_at, bytes_at, part}
+use Rattle.serialize.specs.Objects.{Node, node_at, bytes_at}
 use Rattle.serialize.specs.Width.{width_of}
 use Rattle.fields.specs.Fields.{Rest, Reader, start, front, bare, past, word, offset, nullable, then, allowed, give, also, times, ◌⟫◌}
 use Rattle.fields.specs.Arrays.{mark, mark_array_reader, base_array_reader}
@@ -40,14 +40,6 @@ Bytes nodes = (v i : ℕ) → get_or (bytes_at nodes v) i 0 < 256
 -- what is left of such bytes is such bytes
 low_drop : (n : ℕ) (bs : List ℕ) → Low bs → Low (drop n bs)
 low_drop n bs low i = rw get_or-drop (low (n + i))
-
--- and so is a part of them
-pub low_part : (from n : ℕ) (bs : List ℕ) → Low bs → Low (part from n bs)
-low_part from n bs low i =
-    ⊎_elim
-    (λ (h : i < n). subst (λ b. b < 256) (sym (get_or-take n (drop from bs) i 0 h)) (low_drop from bs low i))
-    (λ (h : n ≤ i). subst (λ b. b < 256) (sym (get_or_past (take n (drop from bs)) i 0 (omega (arith, length-take n (drop from bs))))) (omega arith))
-    (cases_lt i n)
 
 -- a reader whose values have a property, if the bytes are below 256
 record Gives {A : Type 0} (r : Reader A) (P : A → Type 0) : Type 0 where

@@ -115,9 +115,6 @@ count_from_in w [] i = absurd i
 count_from_in w (x ∷ xs) (inl e) = omega (arith, count_here w x xs e)
 count_from_in w (x ∷ xs) (inr i) = omega (arith, count_from_in w xs i, count_there w x xs)
 
-pub none_from_count : (w : ℕ) (xs : List ℕ) → count_by (λ c. eqb c w) xs ≡ 0 → In w xs → ⊥
-none_from_count w xs e i = omega (arith, count_from_in w xs i)
-
 -- what is counted is an element
 pub in_from_count : (w : ℕ) (xs : List ℕ) → 1 ≤ count_by (λ c. eqb c w) xs → In w xs
 in_from_count w [] h = absurd (omega arith)

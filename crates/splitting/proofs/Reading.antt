@@ -172,10 +172,6 @@ module _ (q : Subtable) where
   pub bases_children : children (bases_vertex q) ≡ present (base_anchors q.contents)
   bases_children = base_leads q.contents.bases _
 
--- an extension leads to its subtable
-pub extension_children : (u : ℕ) → children (vertex_of (as_extension u)) ≡ u ∷ []
-extension_children u = refl
-
 -- a lookup leads to its subtables or extensions
 pub lookup_children : (f : Fields) → children (vertex_of (as_lookup f)) ≡ f.offsets
 lookup_children f = offset_leads f.offsets _ ((each as_word f.filter).links _) (word_leads f.filter _)
