@@ -2,18 +2,19 @@
 #![tactic(auto)]
 
 use graph::tables::Graph;
+use serialize::object_file::LinkRecord;
 use std::alloc::{AllocError, Global};
 use walk::all::{NoVertex, size_of_all};
 use walk::marks::clear;
-use walktests::files::graph_of;
+use walktests::files::{graph_of, record};
 
 const COUNT: u32 = 20_000;
 
 // A link from each vertex but the last to the next.
-fn links(heap: Global) -> Result<Vec<[u32; 4]>, AllocError> {
+fn links(heap: Global) -> Result<Vec<LinkRecord>, AllocError> {
     let mut links = Vec::new(heap);
     for v in 1..COUNT {
-        links.push([v - 1, 0, v, 2])?;
+        links.push(record(v - 1, 0, v, 2))?;
     }
     Ok(links)
 }

@@ -1,3 +1,4 @@
 pub mod Ascends
+pub mod Chunks
 pub mod Runs
 pub mod Writes

@@ -1,26 +1,14 @@
 -- Words in a buffer, and what is read back of them.
-use Rattle.std.specs.Prelude.{◌≡◌, ℕ, zero, suc, ◌+◌, ◌-◌, ◌*◌, ◌<◌, ◌≤◌, true, false, ◌&&◌, List, [], ◌∷◌, ◌++◌, length, take, drop, Some, None, Ok, Option, nat_le, nat_lt, slice_set, refl}
+use Rattle.std.specs.Prelude.{◌≡◌, ℕ, zero, suc, ◌+◌, ◌-◌, ◌*◌, ◌<◌, ◌≤◌, true, false, ◌&&◌, Bool, List, [], ◌∷◌, ◌++◌, length, take, drop, Some, None, Ok, Option, nat_le, nat_lt, slice_index, refl}
+use Rattle.std.specs.List.{IsAllAdjacentAnswer}
 use Rattle.std.proofs.Common.{sym, ap, subst, ◌∙◌, append_assoc, arith, ⊎_elim}
 use Rattle.std.proofs.lemmas.List.{drop-drop, drop_at, take_at, flat_map_more}
-use Rattle.std.proofs.lemmas.Bool.{cases_Bool, le-leb, lt-leb, lt-ltb, leb-true, cond-true, cond-false}
+use Rattle.std.proofs.lemmas.Bool.{cases_Bool, le-leb, lt-leb, lt-ltb, ltb-true, ltb-false, leb-true, cond-true}
 use Rattle.layout.specs.Format.{read_coverage}
 use Rattle.coverage_writers.specs.Writing.{ascends, listed, Means, Lawful, length_of, accepts, written}
-use Rattle.coverage_writers.specs.Formats.{word_bytes, bytes_of, meaning1}
+use Rattle.coverage_writers.specs.Formats.{word_bytes, bytes_of}
 use Rattle.layout.specs.Lookup.{given, covered}
-use Rattle.coverage_writers.specs.WriterLaws.{length-bytes_of, length-format1, meaning1-some}
-
-put_both : (xs : List ℕ) (at a b : ℕ) → suc at < length xs → slice_set (slice_set xs at a) (suc at) b ≡ take at xs ++ (a ∷ b ∷ drop (suc (suc at)) xs)
-put_both [] at a b h = absurd (omega arith)
-put_both (x ∷ []) at a b h = absurd (omega arith)
-put_both (x ∷ y ∷ xs) zero a b h = refl
-put_both (x ∷ y ∷ xs) (suc at) a b h = ap (λ l. x ∷ l) (put_both (y ∷ xs) at a b (omega arith))
-
--- two bytes written one after the other
-pub put_two : (xs : List ℕ) (at a b : ℕ) → at + 2 ≤ length xs → slice_set (slice_set xs at a) (at + 1) b ≡ take at xs ++ (a ∷ b ∷ drop (at + 2) xs)
-put_two xs at a b h =
-    let one : at + 1 ≡ suc at = omega arith in
-    let two : at + 2 ≡ suc (suc at) = omega arith in
-    rw (one, two) (put_both xs at a b (omega arith))
+use Rattle.coverage_writers.specs.WriterLaws.{length-bytes_of}
 
 -- one word more at the end of those that stand in the buffer
 pub put_next : (ws old cur : List ℕ) (at w : ℕ) → at ≡ 2 * length ws → cur ≡ bytes_of ws ++ drop at old → take at cur ++ (word_bytes w ++ drop (at + 2) cur) ≡ bytes_of (ws ++ w ∷ []) ++ drop (at + 2) old
@@ -36,39 +24,37 @@ ascends_low low g gs h = ap (λ t. t && (nat_lt g 65536 && ascends (g + 1) gs)) 
 pub ascends_next : (low g : ℕ) (gs : List ℕ) → low ≤ g → g < 65536 → ascends low (g ∷ gs) ≡ ascends (g + 1) gs
 ascends_next low g gs h k = ap (λ t. t && (nat_lt g 65536 && ascends (g + 1) gs)) (le-leb low g h) ∙ ap (λ t. t && ascends (g + 1) gs) (lt-ltb g 65536 k)
 
--- past the words that are written, the buffer is as it was
-pub drop_past : (ws old : List ℕ) (at n : ℕ) → at ≡ 2 * length ws → at ≤ n → drop n (bytes_of ws ++ drop at old) ≡ drop n old
-drop_past ws old at n here far =
-    let split : n ≡ at + (n - at) = omega arith in
-    let long : length (bytes_of ws) ≡ at = length-bytes_of ws ∙ sym here in
-    ap (λ m. drop m (bytes_of ws ++ drop at old)) split ∙ sym (drop-drop (n - at) at (bytes_of ws ++ drop at old)) ∙ ap (drop (n - at)) (drop_at (bytes_of ws) (drop at old) at long)
-    ∙ drop-drop (n - at) at old ∙ ap (λ m. drop m old) (sym split)
+and_last : (a b : Bool) → a && (b && false) ≡ false
+and_last true true = refl
+and_last true false = refl
+and_last false b = refl
 
-pub at_length_of : (gs : List ℕ) → listed gs ≡ true → 4 + 2 * length gs ≡ length_of (meaning1 gs)
-at_length_of gs h = sym (ap length_of (meaning1-some gs h) ∙ length-format1 gs)
+ascends_later : (low g : ℕ) (gs : List ℕ) → ascends (g + 1) gs ≡ false → ascends low (g ∷ gs) ≡ false
+ascends_later low g gs h = ap (λ t. nat_le low g && (nat_lt g 65536 && t)) h ∙ and_last (nat_le low g) (nat_lt g 65536)
 
-module _ (bs old : List ℕ) where
-  pub accepts_not : length old < length bs → accepts (Some bs) old ≡ false
-  accepts_not h = lt-leb (length bs) (length old) h
+after : (g : ℕ) (gs : List ℕ) (k : ℕ) → slice_index (g ∷ gs) (suc k + 1) ≡ slice_index gs (k + 1)
+after g gs k = let z : suc k + 1 ≡ suc (k + 1) = omega arith in ap (slice_index (g ∷ gs)) z
 
-  pub accepts_so : length bs ≤ length old → accepts (Some bs) old ≡ true
-  accepts_so h = le-leb (length bs) (length old) h
+-- each glyph is below the next
+rises : (gs : List ℕ) (low : ℕ) → ((k : ℕ) → slice_index gs k < 65536) → (0 < length gs → low ≤ slice_index gs 0) → ((k : ℕ) → k + 1 < length gs → slice_index gs k < slice_index gs (k + 1)) → ascends low gs ≡ true
+rises [] low small first next = refl
+rises (g ∷ gs) low small first next =
+    ascends_next low g gs (first (omega arith)) (small 0) ∙ rises gs (g + 1) (λ k. small (suc k)) (λ h. let r = next 0 (omega arith) in omega arith) (λ k h. omega (arith, after g gs k, next (suc k) (omega arith)))
 
-  pub written_not : length old < length bs → written (Some bs) old ≡ old
-  written_not h = cond-false (nat_le (length bs) (length old)) (bs ++ drop (length bs) old) old (lt-leb (length bs) (length old) h)
+-- some glyph is not below the next
+falls : (gs : List ℕ) (low k : ℕ) → k + 1 < length gs → slice_index gs (k + 1) ≤ slice_index gs k → ascends low gs ≡ false
+falls [] low k h e = absurd (omega arith)
+falls (g ∷ []) low k h e = absurd (omega arith)
+falls (g ∷ f ∷ gs) low zero h e = ascends_later low g (f ∷ gs) (ascends_low (g + 1) f gs (omega arith))
+falls (g ∷ f ∷ gs) low (suc k) h e = ascends_later low g (f ∷ gs) (falls (f ∷ gs) (g + 1) k (omega arith) (omega (arith, after g (f ∷ gs) k)))
 
-  pub written_so : length bs ≤ length old → written (Some bs) old ≡ bs ++ drop (length bs) old
-  written_so h = cond-true (nat_le (length bs) (length old)) (bs ++ drop (length bs) old) old (le-leb (length bs) (length old) h)
+-- what `is_sorted_by` answers of glyphs
+pub sorted_ascends : (gs : List ℕ) (r : Bool) → ((k : ℕ) → slice_index gs k < 65536) → IsAllAdjacentAnswer (λ x y b. b ≡ nat_lt x y) gs r → ascends 0 gs ≡ r
+sorted_ascends gs true small h = rises gs 0 small (λ _. omega arith) (λ k l. ltb-true (slice_index gs k) (slice_index gs (k + 1)) (sym (h k 0 l)))
+sorted_ascends gs false small h = falls gs 0 h.0 h.1 (ltb-false (slice_index gs h.0) (slice_index gs (h.0 + 1)) (sym (h.2 0)))
 
--- what a write does, by its meaning
-module _ (m : Option (List ℕ)) (old : List ℕ) where
-  module _ (bs : List ℕ) (n : ℕ) (e : m ≡ Some bs) (long : length bs ≡ n) where
-    pub wrote_short : length old < n → (false ≡ accepts m old) × (old ≡ written m old)
-    wrote_short h = (sym (ap (λ n. accepts n old) e ∙ accepts_not bs old (omega arith)), sym (ap (λ n. written n old) e ∙ written_not bs old (omega arith)))
-
-    pub wrote_all : (new : List ℕ) → n ≤ length old → new ≡ bs ++ drop n old → (true ≡ accepts m old) × (new ≡ written m old)
-    wrote_all new h is =
-        (sym (ap (λ n. accepts n old) e ∙ accepts_so bs old (omega arith)), is ∙ ap (λ k. bs ++ drop k old) (sym long) ∙ sym (ap (λ n. written n old) e ∙ written_so bs old (omega arith)))
+written_so : (bs old : List ℕ) → length bs ≤ length old → written (Some bs) old ≡ bs ++ drop (length bs) old
+written_so bs old h = cond-true (nat_le (length bs) (length old)) (bs ++ drop (length bs) old) old (le-leb (length bs) (length old) h)
 
 -- what a lawful writer writes of a list
 pub lawful_means : (meaning : List ℕ → Option (List ℕ)) → Lawful meaning → (gs bs : List ℕ) → meaning gs ≡ Some bs → Means gs (Some bs)

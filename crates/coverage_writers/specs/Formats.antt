@@ -15,9 +15,13 @@ bytes_of ws = flat_map word_bytes ws
 abbrev pub format1 : List ℕ → List ℕ
 format1 gs = bytes_of (1 ∷ length gs ∷ gs)
 
+-- what a writer makes of a list whose tables are `bytes`: none of a list that has no table
+abbrev pub meaning_by : (List ℕ → List ℕ) → List ℕ → Option (List ℕ)
+meaning_by bytes gs = cond (listed gs) (Some (bytes gs)) None
+
 -- what `CoverageFormat1` makes of a list
 abbrev pub meaning1 : List ℕ → Option (List ℕ)
-meaning1 gs = cond (listed gs) (Some (format1 gs)) None
+meaning1 gs = meaning_by format1 gs
 
 -- the runs of neighbours in gs behind the run from s to e, each by its first glyph and its last
 abbrev pub runs_from : ℕ → ℕ → List ℕ → List (ℕ × ℕ)
@@ -44,4 +48,4 @@ table_of gs = cond (nat_le (length gs) (3 * length (runs gs))) (format1 gs) (for
 
 -- what `CoverageTable` makes of a list
 abbrev pub table_meaning : List ℕ → Option (List ℕ)
-table_meaning gs = cond (listed gs) (Some (table_of gs)) None
+table_meaning gs = meaning_by table_of gs

@@ -3,8 +3,8 @@ use Rattle.std.specs.Prelude.{◌≡◌, ℕ, zero, suc, ◌+◌, ◌-◌, ◌*�
 use Rattle.std.proofs.Common.{sym, ap, subst, ◌∙◌, append_assoc, arith, ⊎_elim}
 use Rattle.std.proofs.lemmas.Bool.{le-leb, lt-leb, ltb-true, leb-true, and_parts, cond-true, cond-false, cases_eq, cases_lt, eq-eqb, ne_eqb}
 use Rattle.layout.specs.Format.{Read, word, field, allowed, also, glyphs, read_coverage, run, ranges}
-use Rattle.coverage_writers.specs.Writing.{ascends, listed, Means}
-use Rattle.coverage_writers.specs.Formats.{word_bytes, bytes_of, format1, meaning1, runs_from, runs, range_words, format2, table_of, table_meaning}
+use Rattle.coverage_writers.specs.Writing.{ascends, listed, Means, Lawful}
+use Rattle.coverage_writers.specs.Formats.{word_bytes, bytes_of, format1, meaning_by, runs_from, runs, range_words, format2, table_of}
 use Rattle.layout.proofs.Steps.{glyph_then, start_then, end_then, index_then, allowed_so}
 
 pub length-bytes_of : (ws : List ℕ) → length (bytes_of ws) ≡ 2 * length ws
@@ -34,14 +34,8 @@ format1_back gs h =
 pub length-format1 : (gs : List ℕ) → length (format1 gs) ≡ 4 + 2 * length gs
 length-format1 gs = omega (arith, length-bytes_of gs)
 
-pub meaning1-some : (gs : List ℕ) → listed gs ≡ true → meaning1 gs ≡ Some (format1 gs)
-meaning1-some gs h = cond-true (listed gs) (Some (format1 gs)) None h
-
-pub meaning1-none : (gs : List ℕ) → listed gs ≡ false → meaning1 gs ≡ None
-meaning1-none gs h = cond-false (listed gs) (Some (format1 gs)) None h
-
-pub meaning1-means : (gs : List ℕ) → listed gs ≡ true → Means gs (meaning1 gs)
-meaning1-means gs h = subst (Means gs) (sym (meaning1-some gs h)) (omega (arith, length-format1 gs), format1_back gs h)
+pub format1_means : (gs : List ℕ) → listed gs ≡ true → Means gs (Some (format1 gs))
+format1_means gs h = (omega (arith, length-format1 gs), format1_back gs h)
 
 pub runs_same : (s e g : ℕ) (gs : List ℕ) → g ≡ e + 1 → runs_from s e (g ∷ gs) ≡ runs_from s g gs
 runs_same s e g gs h = cond-true (g == e + 1) (runs_from s g gs) ((s, e) ∷ runs_from g g gs) (eq-eqb g (e + 1) h)
@@ -116,20 +110,25 @@ table_first gs h = cond-true (nat_le (length gs) (3 * length (runs gs))) (format
 pub table_second : (gs : List ℕ) → 3 * length (runs gs) < length gs → table_of gs ≡ format2 gs
 table_second gs h = cond-false (nat_le (length gs) (3 * length (runs gs))) (format1 gs) (format2 gs) (lt-leb (length gs) (3 * length (runs gs)) h)
 
-table_means : (gs : List ℕ) → listed gs ≡ true → Means gs (Some (table_of gs))
+pub table_means : (gs : List ℕ) → listed gs ≡ true → Means gs (Some (table_of gs))
 table_means gs h =
     let a = and_parts (ascends 0 gs) (nat_lt (length gs) 65536) h in
     let few = ltb-true (length gs) 65536 a.1 in
     ⊎_elim
     (λ x. subst (λ b. Means gs (Some b)) (sym (table_second gs x)) (omega (arith, length-format2 gs), format2_back gs h (omega arith)))
-    (λ x. subst (λ b. Means gs (Some b)) (sym (table_first gs x)) (omega (arith, length-format1 gs), format1_back gs h))
+    (λ x. subst (λ b. Means gs (Some b)) (sym (table_first gs x)) (format1_means gs h))
     (cases_lt (3 * length (runs gs)) (length gs))
 
-pub table_meaning-some : (gs : List ℕ) → listed gs ≡ true → table_meaning gs ≡ Some (table_of gs)
-table_meaning-some gs h = cond-true (listed gs) (Some (table_of gs)) None h
+pub meaning_by-some : (bytes : List ℕ → List ℕ) (gs : List ℕ) → listed gs ≡ true → meaning_by bytes gs ≡ Some (bytes gs)
+meaning_by-some bytes gs h = cond-true (listed gs) (Some (bytes gs)) None h
 
-pub table_meaning-none : (gs : List ℕ) → listed gs ≡ false → table_meaning gs ≡ None
-table_meaning-none gs h = cond-false (listed gs) (Some (table_of gs)) None h
+pub meaning_by-none : (bytes : List ℕ → List ℕ) (gs : List ℕ) → listed gs ≡ false → meaning_by bytes gs ≡ None
+meaning_by-none bytes gs h = cond-false (listed gs) (Some (bytes gs)) None h
 
-pub table_meaning-means : (gs : List ℕ) → listed gs ≡ true → Means gs (table_meaning gs)
-table_meaning-means gs h = subst (Means gs) (sym (table_meaning-some gs h)) (table_means gs h)
+-- the law of a writer, by its tables
+pub lawful_by : (bytes : List ℕ → List ℕ) → ((gs : List ℕ) → listed gs ≡ true → Means gs (Some (bytes gs))) → Lawful (meaning_by bytes)
+lawful_by bytes means =
+    record {
+      taken = λ gs h. subst (Means gs) (sym (meaning_by-some bytes gs h)) (means gs h);
+      declined = meaning_by-none bytes;
+    }

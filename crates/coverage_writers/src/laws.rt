@@ -9,7 +9,7 @@ use crate::writer::CoverageWriter;
 use layout::{Coverage, CoverageFault};
 
 /// Why glyphs did not come back: the writer declined, or the table that it wrote is broken.
-#[derive(Clone, Copy)]
+#[derive(Clone, Copy, PartialEq, Debug)]
 pub enum Unread {
     Declined,
     Broken(CoverageFault),
@@ -44,11 +44,9 @@ pub fn write_then_read<W: CoverageWriter>(
 }
 
 /// The laws of the writers.
-pub fn coverage_laws() -> u8
+pub fn coverage_laws()
     ensures back { ReadsBack }
     ensures ascending { ReadsAscending }
     ensures maximal { MaximalRuns }
     ensures rows { WorkedRows }
-{
-    0
-}
+{}

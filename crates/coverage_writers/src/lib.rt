@@ -1,6 +1,7 @@
 // Writers of OpenType Coverage tables.
 #![tactic(auto)]
 
+mod format;
 mod format1;
 mod format2;
 mod laws;

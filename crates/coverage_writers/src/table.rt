@@ -1,64 +1,48 @@
 // Format 1 or 2, by the number of ranges.
-ghost use Rattle.std.specs.Prelude.{◌≡◌, ◌≤◌, true, ◌++◌, length, drop};
-ghost use Rattle.coverage_writers.specs.Writing.{listed};
 ghost use Rattle.coverage_writers.specs.Formats.{table_of, table_meaning};
-ghost use Rattle.coverage_writers.specs.WriterLaws.{table_meaning-means, table_meaning-none};
+ghost use Rattle.coverage_writers.specs.WriterLaws.{table_means, lawful_by};
 
-use crate::format1::{list_length, put_glyphs};
+use crate::format::{Format, length_by, write_by};
+use crate::format1::CoverageFormat1;
 use crate::format2::CoverageFormat2;
-use crate::writer::{CoverageWriter, is_listed};
+use crate::writer::CoverageWriter;
 
 /// Format 1 if the glyphs are at most three times the ranges, and else format 2.
 #[derive(Clone, Copy)]
 pub struct CoverageTable;
 
-/// The length of the table of a list that has one.
-fn table_length(glyphs: &[u16]) -> usize
-    requires { listed glyphs.now ≡ true }
-    ensures { result ≡ length (table_of glyphs.now) }
-{
-    let ranges = CoverageFormat2::count_ranges(glyphs);
-    if glyphs.len() <= 3 * ranges {
-        list_length(glyphs)
-    } else {
-        4 + 6 * ranges
-    }
-}
+impl Format for CoverageTable {
+    ghost bytes = { table_of };
 
-/// Writes the table of a list that has one.
-fn put_table(glyphs: &[u16], out: &mut [u8])
-    requires { (listed glyphs.now ≡ true) × (length (table_of glyphs.now) ≤ length out.old) }
-    ensures { out.new ≡ table_of glyphs.now ++ drop (length (table_of glyphs.now)) out.old }
-{
-    let ranges = CoverageFormat2::count_ranges(glyphs);
-    if 3 * ranges < glyphs.len() {
-        CoverageFormat2::put_ranges(glyphs, ranges as u16, out);
-    } else {
-        put_glyphs(glyphs, out);
+    fn table_length(glyphs: &[u16]) -> usize {
+        let ranges = CoverageFormat2::count_ranges(glyphs);
+        if glyphs.len() <= 3 * ranges {
+            CoverageFormat1::table_length(glyphs)
+        } else {
+            4 + 6 * ranges
+        }
+    }
+
+    fn put_table(glyphs: &[u16], out: &mut [u8]) {
+        let ranges = CoverageFormat2::count_ranges(glyphs);
+        if 3 * ranges < glyphs.len() {
+            CoverageFormat2::put_ranges(glyphs, ranges as u16, out);
+        } else {
+            CoverageFormat1::put_table(glyphs, out);
+        }
     }
 }
 
 impl CoverageWriter for CoverageTable {
     ghost meaning = { λ _ gs. table_meaning gs };
 
-    ghost lawful = { λ w. record { taken = table_meaning-means; declined = table_meaning-none } };
+    ghost lawful = { λ w. lawful_by table_of table_means };
 
     fn length(&self, glyphs: &[u16]) -> usize {
-        if is_listed(glyphs) {
-            table_length(glyphs)
-        } else {
-            0
-        }
+        length_by::<CoverageTable>(glyphs)
     }
 
     fn write(&self, glyphs: &[u16], out: &mut [u8]) -> bool {
-        if !is_listed(glyphs) {
-            return false;
-        }
-        if out.len() < table_length(glyphs) {
-            return false;
-        }
-        put_table(glyphs, out);
-        true
+        write_by::<CoverageTable>(glyphs, out)
     }
 }

@@ -6,6 +6,7 @@ ghost use Rattle.coverage_writers.specs.Formats.{word_bytes};
 /// Writes lists of glyphs as Coverage tables.
 pub trait CoverageWriter {
     // The bytes for a list of glyphs, or none.
+    // The interface of writers is fixed: glyphs and buffer are two parameters, and a list without bytes is told by 0 and by `false`.
     ghost meaning: { Self → List ℕ → Option (List ℕ) };
 
     /// How many bytes `write` writes; 0 for a list that it declines.
@@ -25,14 +26,7 @@ pub trait CoverageWriter {
 pub fn is_listed(glyphs: &[u16]) -> bool
     ensures { result ≡ listed glyphs.now }
 {
-    let mut low = 0;
-    for glyph in glyphs {
-        if u32::from(*glyph) < low {
-            return false;
-        }
-        low = u32::from(*glyph) + 1;
-    }
-    glyphs.len() < 65536
+    glyphs.is_sorted_by(|a, b| a < b) && glyphs.len() < 65536
 }
 
 /// Writes a word at a place.
@@ -40,7 +34,5 @@ pub fn put_word(out: &mut [u8], at: usize, word: u16)
     requires { at + 2 ≤ length out.old }
     ensures { out.new ≡ take at out.old ++ (word_bytes word ++ drop (at + 2) out.old) }
 {
-    let [hi, lo] = word.to_be_bytes();
-    out[at] = hi;
-    out[at + 1] = lo;
+    out[at..at + 2].copy_from_slice(&word.to_be_bytes());
 }

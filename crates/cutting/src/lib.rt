@@ -17,6 +17,12 @@ pub fn greedy_is_computed()
     ensures { (size : ℕ → ℕ → ℕ) → Monotone size → (r k : ℕ) → 0 < k → Agrees size r k }
 {}
 
+// A class that alone exceeds the reach.
+#[derive(Clone, Copy, PartialEq, Eq, Debug)]
+pub struct ClassTooLarge {
+    pub class: u32,
+}
+
 // Tells the sizes of runs of classes while it grows one run, class by class.
 pub trait Sizing {
     // The classes, with the size of each run of them.
@@ -71,11 +77,12 @@ pub fn clear_split_points(points: &mut [u32], count: usize)
 
 // Cuts the classes into runs, each as long as the reach allows. Writes the first class of each run but the first into the list, and answers how many there are.
 // Or answers the lowest class that alone exceeds the reach, and leaves the list as it was.
+// The list is fixed memory of the caller, as long as there may be places, so the count of those in it stands beside it.
 pub fn compute_split_points<S: Sizing>(
     sizes: &mut S,
     reach: usize,
     points: &mut [u32],
-) -> Result<usize, u32>
+) -> Result<usize, ClassTooLarge>
     requires ready { S.Sizing.ready sizes.old }
     requires some { 0 < (S.Sizing.classes sizes.old).count }
     requires room { (S.Sizing.classes sizes.old).count ≤ length points.old }
@@ -87,7 +94,7 @@ pub fn compute_split_points<S: Sizing>(
 {
     let class_count = sizes.class_count();
     if sizes.start(0) > reach {
-        return Err(0);
+        return Err(ClassTooLarge { class: 0 });
     }
     let mut count = 0;
     let mut start = 0;
@@ -97,7 +104,7 @@ pub fn compute_split_points<S: Sizing>(
         }
         if sizes.start(class) > reach {
             clear_split_points(points, count);
-            return Err(class);
+            return Err(ClassTooLarge { class });
         }
         points[count] = class;
         count += 1;

@@ -6,7 +6,7 @@ ghost use Rattle.cutting.specs.SplitPoints.{Clear, SplitPoints};
 ghost use Rattle.cuttingtests.specs.Shared.{classes, classes_of, Ready, Running, Lent, lent_on};
 ghost use Rattle.cuttingtests.specs.Worked.{Worked};
 
-use cutting::{Sizing, compute_split_points};
+use cutting::{ClassTooLarge, Sizing, compute_split_points};
 
 // Classes that each use a thing. A run's size is a base and the sizes of the things that its classes use, each once.
 pub struct Shared<'m, 'a> {
@@ -85,7 +85,7 @@ pub fn cut_shared<'a>(
     marks: &mut [bool],
     reach: usize,
     points: &mut [u32],
-) -> Result<usize, u32>
+) -> Result<usize, ClassTooLarge>
     requires some { 0 < length things.now }
     requires few { length things.now < 65536 }
     requires marks { length marks.old ≡ length sizes.now }
@@ -123,7 +123,7 @@ mod tests {
         rt: &impl Abort,
         things: &[u32],
         reach: usize,
-        answer: Result<usize, u32>,
+        answer: Result<usize, ClassTooLarge>,
         list: [u32; 6],
     ) {
         let mut marks = [false; 6];
@@ -140,7 +140,7 @@ mod tests {
     #[test]
     fn one_class(rt: HostRuntime) {
         cuts(&rt, &[0], 14, Ok(0), [0; 6]);
-        cuts(&rt, &[0], 13, Err(0), [0; 6]);
+        cuts(&rt, &[0], 13, Err(ClassTooLarge { class: 0 }), [0; 6]);
     }
 
     #[test]
@@ -161,8 +161,14 @@ mod tests {
 
     #[test]
     fn the_lowest_class_is_reported_and_the_list_left(rt: HostRuntime) {
-        cuts(&rt, &[5, 0, 5], 63, Err(0), [0; 6]);
-        cuts(&rt, &[0, 5, 4], 50, Err(1), [0; 6]);
-        cuts(&rt, &[0, 1, 2, 5, 5], 34, Err(3), [0; 6]);
+        cuts(&rt, &[5, 0, 5], 63, Err(ClassTooLarge { class: 0 }), [0; 6]);
+        cuts(&rt, &[0, 5, 4], 50, Err(ClassTooLarge { class: 1 }), [0; 6]);
+        cuts(
+            &rt,
+            &[0, 1, 2, 5, 5],
+            34,
+            Err(ClassTooLarge { class: 3 }),
+            [0; 6],
+        );
     }
 }

@@ -11,14 +11,7 @@ use Rattle.fields.specs.Fields.{free, bare, front, offset, nullable, allowed, gi
 use Rattle.fields.specs.Laws.{WordMeans, OffsetMeans, NullableMeans}
 use Rattle.fields.proofs.Apart.{apart, ascending}
 use Rattle.fields.proofs.Steps.{word_is, offset_is}
-use Rattle.fields.proofs.Seeks.{least, word_ok, offset_ok, allowed_ok, then_ok, either, ok_pair}
-
--- which links are left at p, of l and later ones
-took : (p : ℕ) (l : Link) (ls : List Link) → p ≤ l.position → from p (l ∷ ls) ≡ l ∷ ls
-took p l ls h = ap (λ c. cond c (l ∷ ls) (from p ls)) (le-leb p l.position h)
-
-left_out : (p : ℕ) (l : Link) (ls : List Link) → l.position < p → from p (l ∷ ls) ≡ from p ls
-left_out p l ls h = ap (λ c. cond c (l ∷ ls) (from p ls)) (lt-leb p l.position h)
+use Rattle.fields.proofs.Seeks.{took, left_out, least, word_ok, offset_ok, allowed_ok, then_ok, either, ok_pair}
 
 -- from p on, the first link is the least
 none_sooner : (p q e : ℕ) (ls : List Link) (i : ℕ) → apart q ls ≡ true → i < length ls → p ≤ (get_or ls i no_link).position → free e (from p ls) ≡ true → e ≤ (get_or ls i no_link).position

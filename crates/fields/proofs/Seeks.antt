@@ -1,22 +1,45 @@
 -- Records by their number: what is read there, and where the reader then stands.
-use Rattle.std.proofs.Common.{◌≡◌, ℕ, zero, suc, ◌+◌, ◌*◌, ◌<◌, ◌≤◌, Bool, true, false, cond, ◌&&◌, eqb, leb, ◌⊎◌, List, [], ◌∷◌, length, get_or, drop, Some, None, Ok, Err, Option, Result, sym, refl, ap, ◌∙◌, inl, inr, ⊎_elim, add_assoc, suc-mul, mul-zero, mul-suc, arith}
-use Rattle.std.proofs.lemmas.List.{drop-drop, drop_all}
-use Rattle.std.proofs.lemmas.Bool.{le-leb, lt-leb, leb-true, leb-false, eqb-true, and_parts, cases_Bool}
+use Rattle.std.proofs.Common.{◌≡◌, ℕ, zero, suc, ◌+◌, ◌*◌, ◌<◌, ◌≤◌, Bool, true, false, cond, ◌&&◌, eqb, leb, ltb, ◌⊎◌, List, [], ◌∷◌, length, get_or, drop, is_ok, Some, None, Ok, Err, Option, Result, sym, refl, ap, ◌∙◌, inl, inr, ⊎_elim, add_assoc, suc-mul, mul-zero, mul-suc, arith}
+use Rattle.std.proofs.lemmas.List.{drop-drop, drop_all, get_or_default}
+use Rattle.std.specs.List.Sorted.{IsNonDecreasingBy, IsPartitionPoint}
+use Rattle.std.proofs.lemmas.Bool.{le-leb, lt-leb, leb-true, leb-false, ltb-true, ltb-false, eqb-true, and_parts, cases_Bool, cases_lt}
 use Rattle.serialize.specs.declared.link.Link.{Link}
 use Rattle.serialize.specs.declared.link.LinkWidth.{LinkWidth}
 use Rattle.serialize.specs.declared.link.LinkWidth.TheVariants.{Two}
 use Rattle.serialize.specs.Objects.{no_link, Ascends}
 use Rattle.serialize.specs.Width.{width_of}
+use Rattle.layout.specs.declared.located.Located.{Located}
+use Rattle.fields.specs.declared.fault.Fault.{Fault}
+use Rattle.fields.specs.Cursors.{Gives}
 use Rattle.fields.specs.Fields.{Rest, Reader, free, bare, past, belongs, linked, front, word, offset, nullable, then, allowed, give, also, times, ended, ◌⟫◌, from, seek}
 use Rattle.fields.proofs.Apart.{apart, ascending}
 
--- the links from a place on
+-- the links from a place on: the first link is among them, or it is left out
+pub took : (p : ℕ) (l : Link) (ls : List Link) → p ≤ l.position → from p (l ∷ ls) ≡ l ∷ ls
+took p l ls h = ap (λ c. cond c (l ∷ ls) (from p ls)) (le-leb p l.position h)
 
-free_none : (e : ℕ) (ls : List Link) (n : ℕ) → length ls ≤ n → free e (drop n ls) ≡ true
-free_none e ls n h = rw (drop_all n ls h)
+pub left_out : (p : ℕ) (l : Link) (ls : List Link) → l.position < p → from p (l ∷ ls) ≡ from p ls
+left_out p l ls h = ap (λ c. cond c (l ∷ ls) (from p ls)) (lt-leb p l.position h)
 
-pub free_all : (e : ℕ) (ls : List Link) → free e (drop (length ls) ls) ≡ true
-free_all e ls = free_none e ls (length ls) (omega arith)
+-- positions do not fall
+pub rising : (ls : List Link) → Ascends ls → IsNonDecreasingBy (λ (l : Link). l.position) ls
+rising ls up i j d le lt =
+    ⊎_elim
+    (λ (u : i < j).
+    let a = up i j u lt in
+    let e = get_or_default ls i no_link d (omega arith) in
+    let f = get_or_default ls j no_link d lt in
+    omega (arith, ap (λ (l : Link). l.position) e, ap (λ (l : Link). l.position) f))
+    (λ (u : j ≤ i). let e : i ≡ j = omega arith in omega (arith, ap (λ k. (get_or ls k d).position) e))
+    (cases_lt i j)
+
+-- where the first i links start before p and the others do not, the others are those from p on
+pub from_parted : (p : ℕ) (ls : List Link) (i : ℕ) → IsPartitionPoint (λ (l : Link). ltb l.position p ≡ true) (λ (l : Link). ltb l.position p ≡ false) ls i → drop i ls ≡ from p ls
+from_parted p [] i h = drop_all i [] (omega arith)
+from_parted p (l ∷ ls) zero h = sym (took p l ls (ltb-false l.position p (h.1 0 l (omega arith) (omega arith))))
+from_parted p (l ∷ ls) (suc i) h =
+    from_parted p ls i (λ k d low high. h.0 (suc k) d (omega arith) (omega arith), λ k d low high. h.1 (suc k) d (omega arith) (omega arith))
+    ∙ sym (left_out p l ls (ltb-true l.position p (h.0 0 l (omega arith) (omega arith))))
 
 pub from_free : (e : ℕ) (ls : List Link) → free e ls ≡ true → from e ls ≡ ls
 from_free e [] h = refl
@@ -40,20 +63,6 @@ least q (l ∷ ls) (suc m) a h =
     let t = and_parts (leb q l.position) (apart (l.position + width_of l.width) ls) a in
     let u = least (l.position + width_of l.width) ls m t.1 (omega arith) in
     omega (arith, leb-true q l.position t.0)
-
-pub from_past : (p q : ℕ) (ls : List Link) (m : ℕ) → apart q ls ≡ true → m < length ls → (get_or ls m no_link).position < p → from p (drop (suc m) ls) ≡ from p ls
-from_past p q [] m a h b = absurd (omega arith)
-from_past p q (l ∷ ls) zero a h b = let u = lt-leb p l.position b in sym (ap (λ t. cond t (l ∷ ls) (from p ls)) u)
-from_past p q (l ∷ ls) (suc m) a h b =
-    let t = and_parts (leb q l.position) (apart (l.position + width_of l.width) ls) a in
-    let least' = least (l.position + width_of l.width) ls m t.1 (omega arith) in
-    let u = lt-leb p l.position (omega arith) in
-    from_past p (l.position + width_of l.width) ls m t.1 (omega arith) b ∙ sym (ap (λ t. cond t (l ∷ ls) (from p ls)) u)
-
-pub free_at : (p : ℕ) (ls : List Link) (m : ℕ) → m < length ls → p ≤ (get_or ls m no_link).position → free p (drop m ls) ≡ true
-free_at p [] m h b = absurd (omega arith)
-free_at p (l ∷ ls) zero h b = le-leb p l.position b
-free_at p (l ∷ ls) (suc m) h b = free_at p ls m (omega arith) b
 
 pub apart_free : (q : ℕ) (ls : List Link) → apart q ls ≡ true → free q ls ≡ true
 apart_free q [] a = refl
@@ -81,6 +90,16 @@ ok_pair {A} {a} {b} {s} {t} e = let f : ◌≡◌ {A = A × Rest} (a, s) (b, t) 
 
 pub not_ok : {A : Type 0} {p : ℕ} {a : A} → ◌≡◌ {A = Result A ℕ} (Err p) (Ok a) → ⊥
 not_ok e = let z : ◌≡◌ {A = ℕ} 0 1 = cc in omega arith
+
+-- what an answer gives where the reading is unbroken
+module _ {A : Type 0} (read : Result (A × Rest) ℕ) (p : ℕ) (s : Rest) (a : A) (t : Rest) (e : read ≡ Ok (a, t)) where
+  pub given_ok : (r : Result (Located A) Fault) → Gives read p r s → is_ok r ≡ true
+  given_ok (Ok l) g = refl
+  given_ok (Err f) g = absurd (not_ok (sym g ∙ e))
+
+  pub given_value : (r : Result (Located A) Fault) (l : Located A) → Gives read p r s → r ≡ Ok l → l.value ≡ a
+  given_value (Ok k) l g is = let same : k ≡ l = cc in sym (ap (λ (m : Located A). m.value) same) ∙ (ok_pair (sym g.0 ∙ e)).0
+  given_value (Err f) l g is = absurd (not_ok (sym g ∙ e))
 
 kept : {A : Type 0} (b : Bool) (x : A) (p : ℕ) (y : A) → cond b (Ok x) (Err p) ≡ Ok y → (b ≡ true) × (x ≡ y)
 kept true x p y e = (refl, cc)

@@ -4,7 +4,8 @@ ghost use Rattle.std.specs.Prelude.{◌≡◌};
 use layout::CoverageFault;
 
 /// The place of the first broken field of a vertex.
-#[derive(Clone, Copy, PartialEq, Debug)]
+// No `CoverageFault` under another name: each layer has its own fault, and `?` leads from one to the next.
+#[derive(Clone, Copy, Debug, PartialEq, Eq)]
 pub struct Fault {
     pub place: usize,
 }

@@ -23,6 +23,7 @@ pub fn two(position: u32, child: u32) -> Link {
     link(position, child, LinkWidth::Two)
 }
 
+// Bytes and links are two literals in each row of the tests; a vertex around them would only add a name.
 pub fn broken<'a>(bytes: &'a [u8], links: &'a [Link], place: usize) -> Case<'a> {
     Case {
         bytes,
@@ -49,8 +50,5 @@ impl<'a> Case<'a> {
 }
 
 pub fn place_of<T: Drop>(read: Result<T, Fault>) -> Option<usize> {
-    match read {
-        Ok(_) => None,
-        Err(fault) => Some(fault.place),
-    }
+    read.err().map(|fault| fault.place)
 }

@@ -1,44 +1,15 @@
 -- The records of one vertex: they stand together.
-use Rattle.std.proofs.Common.{◌≡◌, ℕ, zero, suc, ◌+◌, ◌-◌, ◌<◌, ◌≤◌, Bool, true, false, cond, eqb, ltb, List, [], ◌∷◌, length, get_or, filter, refl, ap, ◌∙◌, inl, inr, arith}
-use Rattle.std.specs.List.{prefix_len}
-use Rattle.std.proofs.lemmas.List.Sums.{prefix_len-le-length}
+use Rattle.std.proofs.Common.{◌≡◌, ℕ, zero, suc, ◌+◌, ◌-◌, ◌<◌, ◌≤◌, Bool, true, false, eqb, ltb, List, [], ◌∷◌, length, get_or, filter, refl, ap, ◌∙◌, inl, inr, arith}
+use Rattle.std.proofs.lemmas.List.Sums.{prefix_len-le-length, prefix_len_is, prefix_len_passes, prefix_len_stops}
 use Rattle.std.proofs.lemmas.List.FromFn.{length-map-range_with_len, get_or-map-range_with_len}
 use Rattle.std.proofs.lemmas.Bool.{and_parts, cases_eq, cases_lt, ltb-true, lt-ltb, le-ltb, ltb-false, eq-eqb, ne_eqb}
 use Rattle.serialize.specs.declared.object_file.Trailer.{Trailer}
 use Rattle.serialize.specs.declared.object_file.LinkRecord.{LinkRecord}
+use Rattle.serialize.specs.declared.object_file.SoundFile.{SoundFile}
 use Rattle.serialize.specs.Objects.{part}
 use Rattle.serialize.specs.ObjectFile.{record_at, records_of, sound_alone, keeps_rules}
 use Rattle.graph.specs.Filling.{Loadable, first_of}
 use Rattle.serialize.proofs.Order.{in_order, follows_parent, all_keep}
-
--- the longest front that passes
-module _ {X : Type 0} (p : X → Bool) (d : X) where
-  pub leading_is : (xs : List X) (i : ℕ) → i ≤ length xs → ((k : ℕ) → k < i → p (get_or xs k d) ≡ true) → (i < length xs → p (get_or xs i d) ≡ false) → prefix_len p xs ≡ i
-  leading_is [] i h before here = omega arith
-  leading_is (x ∷ xs) zero h before here = let e = here (omega arith) in rw e
-  leading_is (x ∷ xs) (suc i) h before here =
-      let e = before zero (omega arith) in
-      let r = leading_is xs i (omega arith) (λ k l. before (suc k) (omega arith)) (λ l. here (omega arith)) in
-      rw e (omega (arith, r))
-
-  pub leading_passes : (xs : List X) (k : ℕ) → k < prefix_len p xs → p (get_or xs k d) ≡ true
-  leading_passes [] k h = absurd (omega arith)
-  leading_passes (x ∷ xs) k h = by (p x) refl k h (leading_passes xs)
-    where
-      by : (b : Bool) → p x ≡ b → (k : ℕ) → k < cond b (1 + prefix_len p xs) 0 → ((k : ℕ) → k < prefix_len p xs → p (get_or xs k d) ≡ true) → p (get_or (x ∷ xs) k d) ≡ true
-      by false e k h rest = absurd (omega arith)
-      by true e zero h rest = e
-      by true e (suc k) h rest = rest k (omega arith)
-
-  pub leading_stops : (xs : List X) (n : ℕ) → prefix_len p xs ≡ n → n < length xs → p (get_or xs n d) ≡ false
-  leading_stops [] n is h = absurd (omega arith)
-  leading_stops (x ∷ xs) n is h = by (p x) refl n is h (leading_stops xs)
-    where
-      by : (b : Bool) → p x ≡ b → (n : ℕ) → cond b (1 + prefix_len p xs) 0 ≡ n → n < length (x ∷ xs) → ((n : ℕ) → prefix_len p xs ≡ n → n < length xs → p (get_or xs n d) ≡ false) → p (get_or (x ∷ xs) n d) ≡ false
-      by false e zero is h rest = e
-      by false e (suc n) is h rest = absurd (omega arith)
-      by true e zero is h rest = absurd (omega arith)
-      by true e (suc n) is h rest = rest n (omega arith) (omega arith)
 
 -- a filter that keeps one stretch
 pub kept_run : {X : Type 0} (p : X → Bool) (d : X) (xs : List X) (f c : ℕ) → ((k : ℕ) → k < f → k < length xs → p (get_or xs k d) ≡ false)
@@ -56,6 +27,9 @@ kept_run p d (x ∷ xs) zero (suc c) before here after =
 kept_run p d (x ∷ xs) (suc f) c before here after =
     let e = before zero (omega arith) (omega arith) in
     rw e (kept_run p d xs f c (λ k h l. before (suc k) (omega arith) (omega arith)) (λ k h l m. here (suc k) (omega arith) (omega arith) (omega arith)) (λ k h l. after (suc k) (omega arith) (omega arith)))
+
+pub loadable : (s : SoundFile) → Loadable s.file.bytes.now s.file.trailer
+loadable s = (s.file.read, s.sound)
 
 abbrev no_record : LinkRecord
 no_record = record { parent = 0; position = 0; child = 0; width = 0 }
@@ -76,11 +50,11 @@ module _ (file : List ℕ) (t : Trailer) where
 
   pub first_before : (v k : ℕ) → k < first_of file t v → (record_at file t k).parent < v
   first_before v k h =
-      omega (arith, first_le v, parent_is k (omega (arith, first_le v)), ltb-true _ _ (leading_passes (λ (r : LinkRecord). ltb r.parent v) no_record (records_of file t) k h))
+      omega (arith, first_le v, parent_is k (omega (arith, first_le v)), ltb-true _ _ (prefix_len_passes (λ (r : LinkRecord). ltb r.parent v) (records_of file t) k no_record h))
 
   pub first_is : (v i : ℕ) → i ≤ t.links → ((k : ℕ) → k < i → (record_at file t k).parent < v) → (i < t.links → v ≤ (record_at file t i).parent) → first_of file t v ≡ i
   first_is v i h before here =
-      leading_is (λ (r : LinkRecord). ltb r.parent v) no_record (records_of file t) i (omega (arith, records_long))
+      prefix_len_is (λ (r : LinkRecord). ltb r.parent v) (records_of file t) i no_record (omega (arith, records_long))
       (λ k l. lt-ltb _ _ (omega (arith, parent_is k (omega arith), before k l)))
       (λ l. le-ltb _ _ (omega (arith, records_long, parent_is i (omega (arith, records_long)), here (omega (arith, records_long)))))
 
@@ -98,7 +72,7 @@ module _ (file : List ℕ) (t : Trailer) where
     pub first_after : (v k : ℕ) → first_of file t v ≤ k → k < t.links → v ≤ (record_at file t k).parent
     first_after v k le h =
         let i = first_of file t v in
-        omega (arith, parents_up i k le h, parent_is i (omega arith), ltb-false _ _ (leading_stops (λ (r : LinkRecord). ltb r.parent v) no_record (records_of file t) i refl (omega (arith, records_long))))
+        omega (arith, parents_up i k le h, parent_is i (omega arith), ltb-false _ _ (prefix_len_stops (λ (r : LinkRecord). ltb r.parent v) (records_of file t) no_record (omega (arith, records_long))))
 
     pub first_up : (v : ℕ) → first_of file t v ≤ first_of file t (v + 1)
     first_up v =

@@ -10,6 +10,7 @@ mod incoming;
 mod load;
 mod make;
 
+// Vertices name one another by their numbers, and the tables are the caller's: nothing is allocated after they are made.
 #[derive(Drop)]
 pub struct Graph {
     vertices: Vec<Vertex>,

@@ -10,7 +10,7 @@ pub struct Vertex {
 }
 
 // How much the tables hold at most.
-#[derive(Clone, Copy)]
+#[derive(Clone, Copy, PartialEq, Eq, Debug)]
 pub struct Capacity {
     pub vertices: usize,
     pub links: usize,

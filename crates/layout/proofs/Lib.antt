@@ -1,3 +1,4 @@
 pub mod Steps
+pub mod Chunks
 pub mod Rows
 pub mod Tables

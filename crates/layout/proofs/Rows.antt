@@ -50,6 +50,12 @@ rows_small zero s e i low seen gs r few k h = absurd (omega arith)
 rows_small (suc n) s e i low seen gs r few zero h = omega arith
 rows_small (suc n) s e i low seen gs r few (suc k) h = rows_small n _ _ _ _ _ r.3.0 r.3.2 (omega arith) k (omega arith)
 
+-- each row before it has a glyph at least
+pub rows_many : (n : ℕ) (s e i : ℕ → ℕ) (low seen : ℕ) (gs : List ℕ) → Rows n s e i low seen gs → (k : ℕ) → k < n → seen + k ≤ i k
+rows_many zero s e i low seen gs r k h = absurd (omega arith)
+rows_many (suc n) s e i low seen gs r zero h = omega arith
+rows_many (suc n) s e i low seen gs r (suc k) h = omega (arith, rows_many n _ _ _ _ _ r.3.0 r.3.2 k (omega arith))
+
 index_here : (g i : ℕ) (x : ℕ) (xs : List ℕ) → x ≡ g → index_in g i (x ∷ xs) ≡ Some i
 index_here g i x xs e = ap (λ t. cond t (Some i) (index_in g (i + 1) xs)) (eq-eqb x g e)
 

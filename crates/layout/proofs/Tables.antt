@@ -1,16 +1,23 @@
 -- A table without a fault has rows, and they cover its glyphs.
-use Rattle.std.proofs.Common.{◌≡◌, ℕ, zero, suc, ◌+◌, ◌-◌, ◌*◌, ◌<◌, ◌≤◌, true, false, cond, eqb, ◌⊎◌, List, [], ◌∷◌, ◌++◌, length, get_or, drop, Some, None, Ok, Err, Option, sym, refl, ap, ◌∙◌, subst, inl, inr, ⊎_elim, arith, length-drop}
-use Rattle.std.proofs.lemmas.List.{drop-drop, get_or-drop}
-use Rattle.std.proofs.lemmas.Bool.{cases_lt, cases_eq, eq-eqb, ne_eqb}
-use Rattle.layout.specs.Format.{Read, word, also, run, glyphs, ranges}
+use Rattle.std.proofs.Common.{◌≡◌, ℕ, zero, suc, ◌+◌, ◌-◌, ◌*◌, ◌/◌, ◌<◌, ◌≤◌, true, false, cond, eqb, ltb, ◌⊎◌, List, [], ◌∷◌, ◌++◌, length, get_or, drop, Some, None, Ok, Err, Option, sym, refl, ap, ◌∙◌, subst, inl, inr, ⊎_elim, arith, length-drop}
+use Rattle.std.proofs.lemmas.List.{drop-drop}
+use Rattle.std.specs.Simd.{first_chunks}
+use Rattle.std.proofs.lemmas.Bool.{cases_lt, cases_eq, eq-eqb, ne_eqb, ltb-true, ltb-false}
+use Rattle.layout.specs.Format.{Read, also, run, glyphs, ranges}
 use Rattle.layout.specs.Lookup.{given, covered, Sound, index_in, glyph_at}
-use Rattle.layout.specs.Records.{fault_of, word_at, front, RangeAt, range_count, start_of, end_of, index_of}
+use Rattle.layout.specs.Records.{fault_of, word_at, front, RangeAt, range_count, start_of, end_of, index_of, last_index}
 use Rattle.layout.proofs.Steps.{glyph_short, glyph_low, glyph_next, glyph_after, reads_glyphs, reads_ranges, reads_none, reads_empty, reads_short, start_short, start_low, end_short, end_low, index_short, index_other, range_after, range_next}
-use Rattle.layout.specs.Searches.{first_of, last_of, RangeIs, Holds}
+use Rattle.layout.specs.Searches.{RangeIs, HoldsIndex, Tabled, CutAt}
+use Rattle.layout.specs.declared.coverage.Records.TheVariants.{Glyphs, Ranges}
+use denote.Ref.{Bor}
+use denote.Param.Members.{Mut}
+use Rattle.std.specs.Prelude.{Bool, slice_index_or}
+use Rattle.std.specs.Fn.{Called, ComputesKey}
+use Rattle.std.specs.List.Sorted.{IsNonDecreasingBy, IsPartitionedBy, IsPartitionPoint}
+use Rattle.std.proofs.lemmas.List.Sorted.{IsPartitionedBy-ltb, IsPartitionPoint-from_clause}
 use Rattle.layout.specs.Walks.{Stands}
-use Rattle.layout.specs.declared.coverage.Axis.{Axis}
-use Rattle.layout.specs.declared.coverage.Axis.TheVariants.{Glyph, Index}
-use Rattle.layout.proofs.Rows.{Rows, rows_as, rows_at, rows_apart, rows_first, rows_next, rows_small, rows_found, rows_absent, rows_glyph, rows_beyond, rows_count}
+use Rattle.layout.proofs.Chunks.{word_drop, word_chunk}
+use Rattle.layout.proofs.Rows.{Rows, rows_as, rows_at, rows_apart, rows_first, rows_next, rows_small, rows_many, rows_found, rows_absent, rows_glyph, rows_beyond, rows_count}
 
 clash : {X : Type 0} (o : Option ℕ) (p : ℕ) → o ≡ None → o ≡ Some p → X
 clash o p a b = let z : ◌≡◌ {A = ℕ} 0 1 = cc in absurd (omega arith)
@@ -18,12 +25,6 @@ clash o p a b = let z : ◌≡◌ {A = ℕ} 0 1 = cc in absurd (omega arith)
 given_also : (gs : List ℕ) (r : Read) → fault_of r ≡ None → given (also gs r) ≡ gs ++ given r
 given_also gs (Ok hs) h = refl
 given_also gs (Err p) h = clash (Some p) p h refl
-
--- a word behind the first n bytes
-word_drop : (n : ℕ) (bs : List ℕ) (p q : ℕ) → n + p ≡ q → word_at (drop n bs) p ≡ word_at bs q
-word_drop n bs p q e =
-    let f : n + (p + 1) ≡ q + 1 = omega arith in
-    λ i. word ((get_or-drop n bs p 0 ∙ ap (λ x. get_or bs x 0) e) i) ((get_or-drop n bs (p + 1) 0 ∙ ap (λ x. get_or bs x 0) f) i)
 
 run_one : (g k : ℕ) → k ≡ 1 → run g k ≡ g ∷ []
 run_one g k e = ap (run g) e
@@ -162,100 +163,117 @@ module _ (bs : List ℕ) (sound : Sound bs) where
   pub table : Table bs
   table = ⊎_elim listed ranged (cases_eq (front bs) 1)
 
-  -- the k-th range of each format: there is room for it, and it is what its words say
-  module _ (k : ℕ) (within : k < range_count bs) where
-    ordered : start_of bs k ≤ end_of bs k
-    ordered = (rows_at (range_count bs) _ _ _ _ _ _ table.rows k within).1
+  ordered : (k : ℕ) → k < range_count bs → start_of bs k ≤ end_of bs k
+  ordered k within = (rows_at (range_count bs) _ _ _ _ _ _ table.rows k within).1
 
-    pub list_room : word_at bs 0 ≡ 1 → 4 + 2 * k + 2 ≤ length bs
-    list_room one = ⊎_elim (λ a. omega arith) (λ a. absurd (a.0 one)) table.long
+  -- the arrays behind the count, by their format
+  module _ (n : ℕ) (xs : Bor (List (List ℕ))) (is : xs.now ≡ first_chunks n (length (drop 4 bs) / n) (drop 4 bs)) where
+    said : (k p q : ℕ) (d : List ℕ) → k < length (drop 4 bs) / n → p + 1 < n → 4 + (n * k + p) ≡ q → word_at (slice_index_or xs.now k d) p ≡ word_at bs q
+    said k p q d within inside e = ap (λ l. word_at (get_or l k d) p) is ∙ word_chunk n _ (drop 4 bs) k p d within inside ∙ word_drop 4 bs (n * k + p) q e
 
-    pub list_is : (s : ℕ) → word_at bs 0 ≡ 1 → s ≡ word_at bs (4 + 2 * k) → RangeIs bs k s s k
-    list_is s one is =
-        let t = sym (eq-eqb (word_at bs 0) 1 one) in
-        record {
-          start = is ∙ ap (λ x. cond x (word_at bs (4 + 2 * k)) (word_at bs (4 + 6 * k))) t;
-          end = is ∙ ap (λ x. cond x (word_at bs (4 + 2 * k)) (word_at bs (6 + 6 * k))) t;
-          index = ap (λ x. cond x k (word_at bs (8 + 6 * k))) t;
-          ordered = omega arith;
-        }
+  pub list_is : (xs : Bor (List (List ℕ))) → word_at bs 0 ≡ 1 → xs.now ≡ first_chunks 2 (length (drop 4 bs) / 2) (drop 4 bs) → length xs.now ≡ length (drop 4 bs) / 2 → Tabled bs (Glyphs xs)
+  list_is xs one is long =
+      let t = sym (eq-eqb (word_at bs 0) 1 one) in
+      let count : length (drop 4 bs) / 2 ≡ range_count bs = ⊎_elim (λ a. omega (arith, length-drop 4 bs)) (λ a. absurd (a.0 one)) table.long in (
+        long ∙ count,
+        λ k d within.
+            let at = said 2 xs is k 0 (4 + 2 * k) d (omega arith) (omega arith) (omega arith) in
+            record {
+              start = at ∙ ap (λ x. cond x (word_at bs (4 + 2 * k)) (word_at bs (4 + 6 * k))) t;
+              end = at ∙ ap (λ x. cond x (word_at bs (4 + 2 * k)) (word_at bs (6 + 6 * k))) t;
+              index = ap (λ x. cond x k (word_at bs (8 + 6 * k))) t;
+              ordered = omega arith;
+            },
+      )
 
-    pub range_room : (word_at bs 0 ≡ 1 → ⊥) → 10 + 6 * k ≤ length bs
-    range_room other = ⊎_elim (λ a. absurd (other a.0)) (λ a. omega arith) table.long
+  pub ranges_are : (xs : Bor (List (List ℕ))) → (word_at bs 0 ≡ 1 → ⊥) → xs.now ≡ first_chunks 6 (length (drop 4 bs) / 6) (drop 4 bs) → length xs.now ≡ length (drop 4 bs) / 6 → Tabled bs (Ranges xs)
+  ranges_are xs other is long =
+      let t = sym (ne_eqb (word_at bs 0) 1 other) in
+      let count : length (drop 4 bs) / 6 ≡ range_count bs = ⊎_elim (λ a. absurd (other a.0)) (λ a. omega (arith, length-drop 4 bs)) table.long in (
+        long ∙ count,
+        λ k d within.
+            let start = said 6 xs is k 0 (4 + 6 * k) d (omega arith) (omega arith) (omega arith) ∙ ap (λ x. cond x (word_at bs (4 + 2 * k)) (word_at bs (4 + 6 * k))) t in
+            let end = said 6 xs is k 2 (6 + 6 * k) d (omega arith) (omega arith) (omega arith) ∙ ap (λ x. cond x (word_at bs (4 + 2 * k)) (word_at bs (6 + 6 * k))) t in
+            record {
+              start = start;
+              end = end;
+              index = said 6 xs is k 4 (8 + 6 * k) d (omega arith) (omega arith) (omega arith) ∙ ap (λ x. cond x k (word_at bs (8 + 6 * k))) t;
+              ordered = omega (arith, start, end, ordered k within);
+            },
+      )
 
-    pub record_is : (s e i : ℕ) → (word_at bs 0 ≡ 1 → ⊥) → s ≡ word_at bs (4 + 6 * k) → e ≡ word_at bs (6 + 6 * k) → i ≡ word_at bs (8 + 6 * k) → RangeIs bs k s e i
-    record_is s e i other a b c =
-        let t = sym (ne_eqb (word_at bs 0) 1 other) in
-        let start = a ∙ ap (λ x. cond x (word_at bs (4 + 2 * k)) (word_at bs (4 + 6 * k))) t in
-        let end = b ∙ ap (λ x. cond x (word_at bs (4 + 2 * k)) (word_at bs (6 + 6 * k))) t in
-        record {
-          start = start;
-          end = end;
-          index = c ∙ ap (λ x. cond x k (word_at bs (8 + 6 * k))) t;
-          ordered = omega (arith, start, end, ordered);
-        }
+module _ (bs : List ℕ) (sound : Sound bs) where
+  ends_rise : (j k : ℕ) → j < k → k < range_count bs → end_of bs j < start_of bs k
+  ends_rise j k l h = (rows_apart (range_count bs) _ _ _ _ _ _ (table bs sound).rows j k l h).0
 
--- a range's first number and its last
-first : Axis → List ℕ → ℕ → ℕ
-first axis bs k = first_of axis (start_of bs k) (index_of bs k)
+  pub ends_sorted : (j k : ℕ) → j < k → k < range_count bs → end_of bs j ≤ end_of bs k
+  ends_sorted j k l h = omega (arith, ends_rise j k l h, ordered bs sound k h)
 
-last : Axis → List ℕ → ℕ → ℕ
-last axis bs k = last_of axis (start_of bs k) (end_of bs k) (index_of bs k)
-
-first_last : (axis : Axis) (bs : List ℕ) → Sound bs → (k : ℕ) → k < range_count bs → first axis bs k ≤ last axis bs k
-unfolding first last
-first_last Glyph bs sound k h = (rows_at (range_count bs) _ _ _ _ _ _ (table bs sound).rows k h).1
-first_last Index bs sound k h = omega arith
-
-last_first : (axis : Axis) (bs : List ℕ) → Sound bs → (j k : ℕ) → j < k → k < range_count bs → last axis bs j < first axis bs k
-unfolding first last
-last_first Glyph bs sound j k l h = (rows_apart (range_count bs) _ _ _ _ _ _ (table bs sound).rows j k l h).0
-last_first Index bs sound j k l h = (rows_apart (range_count bs) _ _ _ _ _ _ (table bs sound).rows j k l h).1
-
--- halving: what one range tells of those before it, and of those after
-module _ (axis : Axis) (bs : List ℕ) (sound : Sound bs) (key m : ℕ) (within : m < range_count bs) where
-  pub ends_before : last_of axis (start_of bs m) (end_of bs m) (index_of bs m) < key → (k : ℕ) → k < m + 1 → last_of axis (start_of bs k) (end_of bs k) (index_of bs k) < key
-  unfolding first last
-  ends_before e k h =
-      ⊎_elim (λ same. subst (λ x. last_of axis (start_of bs x) (end_of bs x) (index_of bs x) < key) (sym same) e)
-      (λ other. omega (arith, last_first axis bs sound k m (omega arith) within, first_last axis bs sound m within))
-      (cases_eq k m)
-
-  pub starts_after : key < first_of axis (start_of bs m) (index_of bs m) → (k : ℕ) → m ≤ k → k < range_count bs → key < first_of axis (start_of bs k) (index_of bs k)
-  unfolding first last
-  starts_after e k h on =
-      ⊎_elim (λ same. subst (λ x. key < first_of axis (start_of bs x) (index_of bs x)) (sym same) e)
-      (λ other. omega (arith, last_first axis bs sound m k (omega arith) on, first_last axis bs sound m within))
-      (cases_eq k m)
-
--- what is found by a glyph, and by an index
-module _ (bs : List ℕ) (sound : Sound bs) (x : ℕ) where
-  pub glyph_found : (k : ℕ) → k < range_count bs → Holds Glyph bs k x → index_in x 0 (covered bs) ≡ Some (index_of bs k + (x - start_of bs k))
-  glyph_found k within h = rows_found (range_count bs) _ _ _ _ _ _ (table bs sound).rows k x within h.0 h.1
+  pub indices_sorted : (j k : ℕ) → j < k → k < range_count bs → last_index bs j ≤ last_index bs k
+  indices_sorted j k l h = omega (arith, (rows_apart (range_count bs) _ _ _ _ _ _ (table bs sound).rows j k l h).1)
 
   pub index_small : (k : ℕ) → k < range_count bs → index_of bs k ≤ start_of bs k
   index_small k within = rows_small (range_count bs) _ _ _ _ _ _ (table bs sound).rows (omega arith) k within
 
-  pub glyph_absent : ((k : ℕ) → k < range_count bs → Holds Glyph bs k x → ⊥) → index_in x 0 (covered bs) ≡ None
-  glyph_absent h = rows_absent (range_count bs) _ _ _ _ _ _ (table bs sound).rows x (λ k within a b. h k within (a, b))
+  pub index_least : (k : ℕ) → k < range_count bs → k ≤ index_of bs k
+  index_least k within = omega (arith, rows_many (range_count bs) _ _ _ _ _ _ (table bs sound).rows k within)
 
-  pub index_found : (k : ℕ) → k < range_count bs → Holds Index bs k x → glyph_at (covered bs) x ≡ Some (start_of bs k + (x - index_of bs k))
-  index_found k within h =
+  index_held : (x k : ℕ) → k < range_count bs → HoldsIndex bs k x → glyph_at (covered bs) x ≡ Some (start_of bs k + (x - index_of bs k))
+  index_held x k within h =
       let z : start_of bs k + (0 + x - index_of bs k) ≡ start_of bs k + (x - index_of bs k) = omega arith in
       rows_glyph (range_count bs) _ _ _ _ _ _ (table bs sound).rows k x within (omega arith) (omega arith) ∙ ap Some z
 
-  pub index_absent : ((k : ℕ) → k < range_count bs → Holds Index bs k x → ⊥) → glyph_at (covered bs) x ≡ None
-  index_absent h = rows_beyond (range_count bs) _ _ _ _ _ _ (table bs sound).rows x (λ k within a b. h k within (omega arith, omega arith))
+  -- where k ranges end before the glyph x
+  module _ (x k : ℕ) (cut : CutAt x (end_of bs) (range_count bs) k) where
+    pub glyph_found : k < range_count bs → start_of bs k ≤ x → index_in x 0 (covered bs) ≡ Some (index_of bs k + (x - start_of bs k))
+    glyph_found within a = rows_found (range_count bs) _ _ _ _ _ _ (table bs sound).rows k x within a (cut.above k (omega arith) within)
+
+    pub glyph_absent : (k < range_count bs → x < start_of bs k) → index_in x 0 (covered bs) ≡ None
+    glyph_absent h =
+        rows_absent (range_count bs) _ _ _ _ _ _ (table bs sound).rows x (λ j within a b.
+        ⊎_elim (λ l. omega (arith, cut.below j l within)) (λ l.
+        ⊎_elim (λ e. omega (arith, h (omega arith), ap (start_of bs) e)) (λ e. omega (arith, h (omega arith), ordered bs sound k (omega arith), ends_rise k j (omega arith) within))
+        (cases_eq j k)) (cases_lt j k))
+
+  -- where k ranges end before the index x
+  module _ (x k : ℕ) (cut : CutAt x (last_index bs) (range_count bs) k) where
+    pub index_absent : range_count bs ≤ k → glyph_at (covered bs) x ≡ None
+    index_absent h = rows_beyond (range_count bs) _ _ _ _ _ _ (table bs sound).rows x (λ j within a b. omega (arith, cut.below j (omega arith) within))
+
+    begun : (m : ℕ) → m ≡ k → m < range_count bs → index_of bs m ≤ x
+    begun zero e h = omega (arith, rows_first (range_count bs) _ _ _ _ _ _ (table bs sound).rows h)
+    begun (suc m) e h = omega (arith, ordered bs sound m (omega arith), cut.below m (omega arith) (omega arith), rows_next (range_count bs) _ _ _ _ _ _ (table bs sound).rows m h)
+
+    pub index_begun : k < range_count bs → index_of bs k ≤ x
+    index_begun = begun k refl
+
+    pub index_found : k < range_count bs → glyph_at (covered bs) x ≡ Some (start_of bs k + (x - index_of bs k))
+    index_found h = index_held x k h (index_begun h, cut.above k (omega arith) h)
+
+    pub index_within : k < range_count bs → x - index_of bs k ≤ end_of bs k - start_of bs k
+    index_within h = omega (arith, cut.above k (omega arith) h)
 
 -- how many glyphs there are, by the last range, or with none
 module _ (bs : List ℕ) (sound : Sound bs) where
-  pub count_by_last : (k : ℕ) → range_count bs ≡ suc k → index_of bs k + (end_of bs k + 1 - start_of bs k) ≡ length (covered bs)
+  pub count_by_last : (k : ℕ) → range_count bs ≡ k + 1 → last_index bs k + 1 ≡ length (covered bs)
   count_by_last k e =
-      let r = subst (λ n. Rows n (start_of bs) (end_of bs) (index_of bs) 0 0 (covered bs)) e (table bs sound).rows in
-      omega (arith, rows_count k (start_of bs) (end_of bs) (index_of bs) 0 0 (covered bs) r)
+      let one : range_count bs ≡ suc k = omega arith in
+      let r = subst (λ n. Rows n (start_of bs) (end_of bs) (index_of bs) 0 0 (covered bs)) one (table bs sound).rows in
+      omega (arith, ordered bs sound k (omega arith), rows_count k (start_of bs) (end_of bs) (index_of bs) 0 0 (covered bs) r)
 
   pub count_none : range_count bs ≡ 0 → length (covered bs) ≡ 0
   count_none e = ap length (subst (λ n. Rows n (start_of bs) (end_of bs) (index_of bs) 0 0 (covered bs)) e (table bs sound).rows)
+
+  pub count_listed : (gs : Bor (List (List ℕ))) → Tabled bs (Glyphs gs) → length gs.now ≡ length (covered bs)
+  count_listed gs is =
+      ⊎_elim (λ e. omega (arith, is.0, count_none e)) (λ e.
+      let k = range_count bs - 1 in
+      let r = is.1 k [] (omega arith) in
+      omega (arith, is.0, r.start, r.end, r.index, count_by_last k (omega arith))) (cases_eq (range_count bs) 0)
+
+  pub count_ranged : (rs : Bor (List (List ℕ))) → Tabled bs (Ranges rs) → 1 ≤ length rs.now
+      → word_at (slice_index_or rs.now (length rs.now - 1) []) 4 + (word_at (slice_index_or rs.now (length rs.now - 1) []) 2 - word_at (slice_index_or rs.now (length rs.now - 1) []) 0) + 1 ≡ length (covered bs)
+  count_ranged rs is some = let r = is.1 (length rs.now - 1) [] (omega (arith, is.0)) in omega (arith, r.start, r.end, r.index, count_by_last (length rs.now - 1) (omega (arith, is.0)))
 
 -- a walk: where it begins, and one glyph more, in the same range or past it
 pub stands_first : (bs : List ℕ) → Sound bs → Stands bs 0 0
@@ -290,5 +308,19 @@ glyph_within (y ∷ gs) (suc x) g h = let r = glyph_within gs x g h in omega ari
 pub stands_glyph : (bs : List ℕ) (k x s e i : ℕ) → Stands bs k x → k < range_count bs → RangeIs bs k s e i → (glyph_at (covered bs) x ≡ Some (s + (x - i))) × (x < length (covered bs))
 stands_glyph bs k x s e i at within r =
     let z : start_of bs k + (x - index_of bs k) ≡ s + (x - i) = omega arith in
-    let found = index_found bs at.sound x k within (at.here within) ∙ ap Some z in
+    let found = index_held bs at.sound x k within (at.here within) ∙ ap Some z in
     (found, glyph_within (covered bs) x _ found)
+
+-- what `partition_point` finds among arrays whose k-th has the number f k, where each call asks whether that is below x
+pub cut_at : {F : Type 0} {g : Mut F (Bor (List ℕ) × Unit {0}) Bool} {h : F} (key : List ℕ → ℕ) (x : ℕ) (f : ℕ → ℕ) (n : ℕ) (xs : List (List ℕ)) (i : ℕ)
+    → length xs ≡ n → ((k : ℕ) (d : List ℕ) → k < n → key (slice_index_or xs k d) ≡ f k) → ((j k : ℕ) → j < k → k < n → f j ≤ f k)
+    → ((q : List ℕ → Bool) → ComputesKey g q h → IsPartitionedBy q xs → IsPartitionPoint (λ y. q y ≡ true) (λ y. q y ≡ false) xs i)
+    → ((a : Bor (List ℕ) × Unit {0}) (r : Bool) (h' : F) → Called g h a r h' → (r ≡ ltb (key a.0.now) x) × (h' ≡ h)) → CutAt x f n i
+cut_at key x f n xs i long same rise clause calls =
+    let up : IsNonDecreasingBy key xs =
+    λ j k d le h. ⊎_elim (λ e. omega (arith, ap (λ m. key (slice_index_or xs m d)) e)) (λ e. omega (arith, same j d (omega arith), same k d (omega arith), rise j k (omega arith) (omega arith))) (cases_eq j k) in
+    let at = IsPartitionPoint-from_clause (λ y. ltb (key y) x) xs i clause (IsPartitionedBy-ltb key xs x up) calls in
+    record {
+      below = λ j h l. omega (arith, same j [] l, ltb-true _ _ (at.0 j [] (omega arith) h));
+      above = λ j h l. omega (arith, same j [] l, ltb-false _ _ (at.1 j [] h (omega arith)));
+    }

@@ -1,5 +1,5 @@
 -- The records of a table, by their bytes: what the reader's and the view's own steps promise one another.
-use Rattle.std.specs.Prelude.{◌≡◌, ℕ, ◌+◌, ◌*◌, ◌≤◌, cond, List, length, drop, Some, None, Ok, Err, Option, ◌==◌, slice_index}
+use Rattle.std.specs.Prelude.{◌≡◌, ℕ, ◌+◌, ◌-◌, ◌*◌, ◌≤◌, cond, List, length, drop, Some, None, Ok, Err, Option, ◌==◌, slice_index}
 use Rattle.layout.specs.Format.{Read, word}
 
 -- the place of the first broken field, if there is one
@@ -39,3 +39,7 @@ end_of bs k = cond (word_at bs 0 == 1) (word_at bs (4 + 2 * k)) (word_at bs (6 +
 -- the index of the first glyph of the k-th range
 abbrev pub index_of : List ℕ → ℕ → ℕ
 index_of bs k = cond (word_at bs 0 == 1) k (word_at bs (8 + 6 * k))
+
+-- the index of the last glyph of the k-th range
+abbrev pub last_index : List ℕ → ℕ → ℕ
+last_index bs k = index_of bs k + (end_of bs k - start_of bs k)

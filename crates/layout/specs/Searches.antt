@@ -1,18 +1,8 @@
--- What a range holds, by its glyphs and by their indices.
-use Rattle.std.specs.Prelude.{◌≡◌, ℕ, ◌+◌, ◌-◌, ◌≤◌, List}
-use Rattle.layout.specs.Records.{start_of, end_of, index_of}
-use Rattle.layout.specs.declared.coverage.Axis.{Axis}
-use Rattle.layout.specs.declared.coverage.Axis.TheVariants.{Glyph, Index}
-
--- the first number of the range from s on whose first glyph has the index i
-abbrev pub first_of : Axis → ℕ → ℕ → ℕ
-first_of Glyph s i = s
-first_of Index s i = i
-
--- the last number of the range from s to e
-abbrev pub last_of : Axis → ℕ → ℕ → ℕ → ℕ
-last_of Glyph s e i = e
-last_of Index s e i = i + (e - s)
+-- What the records of a table say of its ranges.
+use Rattle.std.specs.Prelude.{◌≡◌, ℕ, ◌<◌, ◌≤◌, List, length, slice_index_or}
+use Rattle.layout.specs.Records.{word_at, range_count, start_of, end_of, index_of, last_index}
+use Rattle.layout.specs.declared.coverage.Records.{Records}
+use Rattle.layout.specs.declared.coverage.Records.TheVariants.{Glyphs, Ranges}
 
 -- the k-th range of a table
 pub record RangeIs (bs : List ℕ) (k s e i : ℕ) : Type 0 where
@@ -21,6 +11,18 @@ pub record RangeIs (bs : List ℕ) (k s e i : ℕ) : Type 0 where
   pub index : i ≡ index_of bs k
   pub ordered : s ≤ e
 
--- the k-th range holds a number
-abbrev pub Holds : Axis → List ℕ → ℕ → ℕ → Type 0
-Holds axis bs k x = (first_of axis (start_of bs k) (index_of bs k) ≤ x) × (x ≤ last_of axis (start_of bs k) (end_of bs k) (index_of bs k))
+-- the k-th range holds the index x
+abbrev pub HoldsIndex : List ℕ → ℕ → ℕ → Type 0
+HoldsIndex bs k x = (index_of bs k ≤ x) × (x ≤ last_index bs k)
+
+-- the records are the ranges of a table, each glyph of format 1 a range of its own
+abbrev pub Tabled : List ℕ → Records → Type 0
+Tabled bs (Glyphs gs) =
+    (length gs.now ≡ range_count bs) × ((k : ℕ) (d : List ℕ) → k < range_count bs → RangeIs bs k (word_at (slice_index_or gs.now k d) 0) (word_at (slice_index_or gs.now k d) 0) k)
+Tabled bs (Ranges rs) =
+    (length rs.now ≡ range_count bs) × ((k : ℕ) (d : List ℕ) → k < range_count bs → RangeIs bs k (word_at (slice_index_or rs.now k d) 0) (word_at (slice_index_or rs.now k d) 2) (word_at (slice_index_or rs.now k d) 4))
+
+-- of the numbers from f 0 to f (n - 1), the first k and no others are below x
+pub record CutAt (x : ℕ) (f : ℕ → ℕ) (n k : ℕ) : Type 0 where
+  pub below : (j : ℕ) → j < k → j < n → f j < x
+  pub above : (j : ℕ) → k ≤ j → j < n → x ≤ f j

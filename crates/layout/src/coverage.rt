@@ -2,9 +2,8 @@
 ghost use Rattle.std.specs.Prelude.{◌≡◌, ℕ, ◌+◌, ◌-◌, ◌*◌, ◌<◌, ◌≤◌, length, Ok, Err, MatchOption, MatchResult};
 ghost use Rattle.layout.specs.Format.{read_coverage};
 ghost use Rattle.layout.specs.Lookup.{covered, Sound, index_in, glyph_at};
-ghost use Rattle.layout.specs.Records.{word_at, range_count};
-ghost use Rattle.layout.specs.Searches.{first_of, last_of, RangeIs, Holds};
-ghost use Rattle.layout.specs.Walks.{Stands};
+ghost use Rattle.layout.specs.Records.{range_count, end_of, last_index};
+ghost use Rattle.layout.specs.Searches.{RangeIs, Tabled, CutAt};
 
 use crate::coverage::glyphs::Glyphs;
 use crate::located::CoverageFault;
@@ -12,39 +11,17 @@ use crate::reader::{RangeRecord, check};
 
 pub mod glyphs;
 
-/// By what a range is looked for: the glyphs that it covers, or their indices.
-#[derive(Clone, Copy)]
-pub enum Axis {
-    Glyph,
-    Index,
+/// The records of a table by its format, each as its bytes.
+enum Records<'a> {
+    Glyphs(&'a [[u8; 2]]),
+    Ranges(&'a [[u8; 6]]),
 }
 
 /// A whole Coverage table.
 #[derive(Clone, Copy)]
 pub struct Coverage<'a> {
     bytes: &'a [u8],
-}
-
-/// The word at a place.
-fn word(bytes: &[u8], at: usize) -> u16
-    requires { at + 2 ≤ length bytes.now }
-    ensures { result ≡ word_at bytes.now at }
-{
-    u16::from_be_bytes([bytes[at], bytes[at + 1]])
-}
-
-impl RangeRecord {
-    /// The first and the last number that the range holds.
-    fn span(&self, axis: Axis) -> (usize, usize)
-        requires { self.now.start ≤ self.now.end }
-        ensures { (result.0 ≡ first_of axis self.now.start self.now.index) × (result.1 ≡ last_of axis self.now.start self.now.end self.now.index) }
-    {
-        let first = usize::from(self.index);
-        match axis {
-            Axis::Glyph => (usize::from(self.start), usize::from(self.end)),
-            Axis::Index => (first, first + usize::from(self.end - self.start)),
-        }
-    }
+    ghost sound: { Sound bytes.now },
 }
 
 impl<'a> Coverage<'a> {
@@ -66,95 +43,96 @@ impl<'a> Coverage<'a> {
         Coverage { bytes }
     }
 
-    /// How many ranges there are.
-    fn range_count(&self) -> usize
-        requires { Sound self.now.bytes.now }
-        ensures { (result ≡ range_count self.now.bytes.now) × (result < 65536) }
+    /// The records, found without going through them.
+    fn records(&self) -> Records<'a>
+        ensures { Tabled self.now.bytes.now result }
     {
-        usize::from(word(self.bytes, 2))
+        let rest = &self.bytes[4..];
+        if u16::from_be_bytes([self.bytes[0], self.bytes[1]]) == 1 {
+            Records::Glyphs(rest.as_chunks::<2>().0)
+        } else {
+            Records::Ranges(rest.as_chunks::<6>().0)
+        }
     }
 
     /// The range number `k`; in format 1 each glyph is a range of its own.
-    fn range(&self, k: usize) -> RangeRecord
-        requires sound { Sound self.now.bytes.now }
-        requires within { k < range_count self.now.bytes.now }
-        requires fits { k < 65536 }
-        ensures { RangeIs self.now.bytes.now k result.start result.end result.index }
+    fn range(&self, k: usize) -> Option<RangeRecord>
+        ensures { MatchOption result
+            (range_count self.now.bytes.now ≤ k)
+            (λ r. (k < range_count self.now.bytes.now) × RangeIs self.now.bytes.now k r.start r.end r.index) }
     {
-        if word(self.bytes, 0) == 1 {
-            let glyph = word(self.bytes, 4 + 2 * k);
-            return RangeRecord {
-                start: glyph,
-                end: glyph,
-                index: k as u16,
-            };
-        }
-        RangeRecord {
-            start: word(self.bytes, 4 + 6 * k),
-            end: word(self.bytes, 6 + 6 * k),
-            index: word(self.bytes, 8 + 6 * k),
+        match self.records() {
+            Records::Glyphs(glyphs) => {
+                let start = u16::from_be_bytes(*glyphs.get(k)?);
+                let (end, index) = (start, k as u16);
+                Some(RangeRecord { start, end, index })
+            }
+            Records::Ranges(ranges) => Some(RangeRecord::from(*ranges.get(k)?)),
         }
     }
 
-    /// The range that holds a number, by halving.
-    fn find(&self, axis: Axis, key: usize) -> Option<RangeRecord>
-        requires { Sound self.now.bytes.now }
-        ensures { MatchOption result
-            ((k : ℕ) → k < range_count self.now.bytes.now → Holds axis self.now.bytes.now k key → ⊥)
-            (λ range. ((k : ℕ) × (k < range_count self.now.bytes.now) × RangeIs self.now.bytes.now k range.start range.end range.index × Holds axis self.now.bytes.now k key)) }
+    /// How many ranges end before a glyph.
+    fn before_glyph(&self, glyph: u16) -> usize
+        ensures { CutAt glyph (end_of self.now.bytes.now) (range_count self.now.bytes.now) result }
     {
-        let mut low = 0;
-        let mut high = self.range_count();
-        while low < high {
-            let middle = low + (high - low) / 2;
-            let range = self.range(middle);
-            let (first, last) = range.span(axis);
-            if last < key {
-                low = middle + 1;
-            } else if key < first {
-                high = middle;
-            } else {
-                return Some(range);
+        match self.records() {
+            Records::Glyphs(glyphs) => {
+                glyphs.partition_point(|last| u16::from_be_bytes(*last) < glyph)
+            }
+            Records::Ranges(ranges) => {
+                ranges.partition_point(|last| RangeRecord::from(*last).end < glyph)
             }
         }
-        None
+    }
+
+    /// How many ranges end before an index.
+    fn before_index(&self, index: usize) -> usize
+        ensures { CutAt index (last_index self.now.bytes.now) (range_count self.now.bytes.now) result }
+    {
+        match self.records() {
+            Records::Glyphs(_) => index,
+            Records::Ranges(ranges) => {
+                ranges.partition_point(|last| RangeRecord::from(*last).last_index() < index)
+            }
+        }
     }
 
     /// How many glyphs the table covers: up to 65,536.
+    #[tactic(auto, using(crate::proofs::Tables::count_listed))]
     pub fn count(&self) -> usize
-        requires { Sound self.now.bytes.now }
         ensures { result ≡ length (covered self.now.bytes.now) }
     {
-        let ranges = self.range_count();
-        if ranges == 0 {
-            return 0;
+        match self.records() {
+            Records::Glyphs(glyphs) => glyphs.len(),
+            Records::Ranges([]) => 0,
+            Records::Ranges([.., last]) => RangeRecord::from(*last).last_index() + 1,
         }
-        let (_, last) = self.range(ranges - 1).span(Axis::Index);
-        last + 1
     }
 
     /// The glyph at an index.
+    #[tactic(auto, using(crate::proofs::Tables::index_found, crate::proofs::Tables::index_absent, crate::proofs::Tables::index_begun, crate::proofs::Tables::index_within))]
     pub fn glyph(&self, index: usize) -> Option<u16>
-        requires { Sound self.now.bytes.now }
         ensures { result ≡ glyph_at (covered self.now.bytes.now) index }
     {
-        let range = self.find(Axis::Index, index)?;
+        let range = self.range(self.before_index(index))?;
         Some(range.start + (index - usize::from(range.index)) as u16)
     }
 
     /// The index of a glyph.
+    #[tactic(auto, using(crate::proofs::Tables::glyph_found, crate::proofs::Tables::glyph_absent, crate::proofs::Tables::index_small))]
     pub fn index_of(&self, glyph: u16) -> Option<u16>
-        requires { Sound self.now.bytes.now }
         ensures { result ≡ index_in glyph 0 (covered self.now.bytes.now) }
     {
-        let range = self.find(Axis::Glyph, usize::from(glyph))?;
-        Some(range.index + (glyph - range.start))
+        let range = self.range(self.before_glyph(glyph))?;
+        let above = glyph.checked_sub(range.start)?;
+        Some(range.index + above)
     }
 
     /// The glyphs in order, each with its index.
+    #[tactic(auto, using(crate::proofs::Tables::stands_first))]
     pub fn glyphs(&self) -> Glyphs<'a>
-        requires { Sound self.now.bytes.now }
-        ensures { (result.coverage.bytes.now ≡ self.now.bytes.now) × (result.index ≡ 0) × Stands self.now.bytes.now result.range result.index }
+        ensures bytes { result.coverage.bytes.now ≡ self.now.bytes.now }
+        ensures first { result.index ≡ 0 }
     {
         Glyphs {
             coverage: *self,

@@ -1,49 +1,9 @@
 // Whether bytes are a Coverage table, and if not, the place of the first broken field.
-ghost use Rattle.std.specs.Prelude.{◌≡◌, ℕ, suc, ◌+◌, ◌^◌, ◌<◌, ◌≤◌, length, Some, None, MatchResult};
-ghost use Rattle.layout.specs.Format.{read_coverage, glyphs, ranges};
-ghost use Rattle.layout.specs.Records.{fault_of, front, RangeAt};
+ghost use Rattle.std.specs.Prelude.{◌≡◌, ℕ, suc, ◌+◌, ◌-◌, ◌^◌, ◌<◌, ◌≤◌, length, drop, Some, None, IfOk, MatchResult};
+ghost use Rattle.layout.specs.Format.{read_coverage, end, glyphs, ranges};
+ghost use Rattle.layout.specs.Records.{fault_of, word_at, front, RangeAt};
 
 use crate::located::{CoverageFault, Located};
-
-/// The word at the front of `rest`, whose first byte stands at `place`.
-fn word_at(rest: &[u8], place: usize) -> Result<Located<u16>, CoverageFault>
-    ensures { MatchResult result
-        (λ w. (2 ≤ length rest.now) × (w.value ≡ front rest.now) × (w.place ≡ place))
-        (λ f. (length rest.now < 2) × (f.place ≡ place)) }
-{
-    let [hi, lo, ..] = rest else {
-        return Err(CoverageFault { place });
-    };
-    Ok(Located {
-        value: u16::from_be_bytes([*hi, *lo]),
-        place,
-    })
-}
-
-/// Format 1: `count` glyphs in `rest`, whose first byte stands at place 4.
-fn check_glyphs(count: u16, rest: &[u8]) -> Result<(), CoverageFault>
-    ensures { MatchResult result
-        (λ _. fault_of (glyphs count 0 4 rest.now) ≡ None)
-        (λ f. fault_of (glyphs count 0 4 rest.now) ≡ Some f.place) }
-{
-    let mut left = rest;
-    let mut place = 4;
-    let mut low = 0;
-    for i in 0..count {
-        let glyph = word_at(left, place)?;
-        if u32::from(glyph.value) < low {
-            return Err(CoverageFault { place: glyph.place });
-        }
-        low = u32::from(glyph.value) + 1;
-        place += 2;
-        left = &left[2..];
-    }
-    if left.is_empty() {
-        Ok(())
-    } else {
-        Err(CoverageFault { place })
-    }
-}
 
 /// A range of format 2.
 #[derive(Clone, Copy)]
@@ -53,61 +13,127 @@ pub struct RangeRecord {
     pub index: u16,
 }
 
-/// The range at the front of `rest`, which starts at `low` at the earliest and has `seen` glyphs before it.
-fn range_at(
-    rest: &[u8],
-    place: usize,
-    low: u32,
-    seen: u32,
-) -> Result<Located<RangeRecord>, CoverageFault>
-    requires { place < 2 ^ 32 }
-    ensures { MatchResult result
-        (λ l. RangeAt rest.now low seen l.value.start l.value.end × (l.value.index ≡ seen) × (l.place ≡ place))
-        (λ f. ((n : ℕ) → fault_of (ranges (suc n) low seen place rest.now) ≡ Some f.place)) }
-{
-    let start = word_at(rest, place)?;
-    if u32::from(start.value) < low {
-        return Err(CoverageFault { place: start.place });
+impl From<[u8; 6]> for RangeRecord {
+    ghost from_gives = { λ b r. (r.start ≡ word_at b 0) × (r.end ≡ word_at b 2) × (r.index ≡ word_at b 4) };
+
+    fn from([s0, s1, e0, e1, i0, i1]: [u8; 6]) -> RangeRecord {
+        let start = u16::from_be_bytes([s0, s1]);
+        let end = u16::from_be_bytes([e0, e1]);
+        let index = u16::from_be_bytes([i0, i1]);
+        RangeRecord { start, end, index }
     }
-    let end = word_at(&rest[2..], place + 2)?;
-    if end.value < start.value {
-        return Err(CoverageFault { place: end.place });
-    }
-    let index = word_at(&rest[4..], place + 4)?;
-    if u32::from(index.value) != seen {
-        return Err(CoverageFault { place: index.place });
-    }
-    Ok(Located {
-        value: RangeRecord {
-            start: start.value,
-            end: end.value,
-            index: index.value,
-        },
-        place,
-    })
 }
 
-/// Format 2: `count` ranges in `rest`, whose first byte stands at place 4.
-fn check_ranges(count: u16, rest: &[u8]) -> Result<(), CoverageFault>
-    ensures { MatchResult result
-        (λ _. fault_of (ranges count 0 0 4 rest.now) ≡ None)
-        (λ f. fault_of (ranges count 0 0 4 rest.now) ≡ Some f.place) }
-{
-    let mut left = rest;
-    let mut place = 4;
-    let mut low = 0;
-    let mut seen = 0;
-    for i in 0..count {
-        let range = range_at(left, place, low, seen)?;
-        low = u32::from(range.value.end) + 1;
-        seen += low - u32::from(range.value.start);
-        place += 6;
-        left = &left[6..];
+impl RangeRecord {
+    /// The index of the last glyph. Any bytes may be asked for it, so the difference saturates.
+    pub(crate) fn last_index(&self) -> usize
+        ensures { result ≡ self.now.index + (self.now.end - self.now.start) }
+    {
+        usize::from(self.index) + usize::from(self.end.saturating_sub(self.start))
     }
-    if left.is_empty() {
-        Ok(())
-    } else {
-        Err(CoverageFault { place })
+}
+
+/// The bytes that are still to be read, and the place of the first of them.
+#[derive(Drop)]
+struct Reader<'a> {
+    rest: &'a [u8],
+    place: usize,
+    ghost fits: { place + length rest.now < 2 ^ 64 },
+}
+
+impl<'a> Reader<'a> {
+    /// The next word.
+    fn word(&mut self) -> Result<Located<u16>, CoverageFault>
+        ensures found { MatchResult result
+            (λ w. (2 ≤ length self.old.rest.now) × (w.value ≡ front self.old.rest.now) × (w.place ≡ self.old.place))
+            (λ f. (length self.old.rest.now < 2) × (f.place ≡ self.old.place)) }
+        ensures behind { IfOk result (λ _. (self.new.rest.now ≡ drop 2 self.old.rest.now) × (self.new.place ≡ self.old.place + 2)) }
+    {
+        let place = self.place;
+        let [hi, lo, rest @ ..] = self.rest else {
+            return Err(CoverageFault { place });
+        };
+        let value = u16::from_be_bytes([*hi, *lo]);
+        *self = Reader {
+            rest,
+            place: place + 2,
+        };
+        Ok(Located { value, place })
+    }
+
+    /// The next range, which starts at `low` at the earliest and has `seen` glyphs before it.
+    fn range(&mut self, low: u32, seen: u32) -> Result<Located<RangeRecord>, CoverageFault>
+        ensures found { MatchResult result
+            (λ l. RangeAt self.old.rest.now low seen l.value.start l.value.end × (l.value.index ≡ seen) × (l.place ≡ self.old.place))
+            (λ f. ((n : ℕ) → fault_of (ranges (suc n) low seen self.old.place self.old.rest.now) ≡ Some f.place)) }
+        ensures behind { IfOk result (λ _. (self.new.rest.now ≡ drop 6 self.old.rest.now) × (self.new.place ≡ self.old.place + 6)) }
+    {
+        let start = self.word()?;
+        if u32::from(start.value) < low {
+            return Err(CoverageFault { place: start.place });
+        }
+        let end = self.word()?;
+        if end.value < start.value {
+            return Err(CoverageFault { place: end.place });
+        }
+        let index = self.word()?;
+        if u32::from(index.value) != seen {
+            return Err(CoverageFault { place: index.place });
+        }
+        Ok(Located {
+            value: RangeRecord {
+                start: start.value,
+                end: end.value,
+                index: index.value,
+            },
+            place: start.place,
+        })
+    }
+
+    /// No byte may follow.
+    fn end(&self) -> Result<(), CoverageFault>
+        ensures { MatchResult result
+            (λ _. fault_of (end self.now.place self.now.rest.now) ≡ None)
+            (λ f. fault_of (end self.now.place self.now.rest.now) ≡ Some f.place) }
+    {
+        if self.rest.is_empty() {
+            Ok(())
+        } else {
+            Err(CoverageFault { place: self.place })
+        }
+    }
+
+    /// Format 1: `count` glyphs, and nothing else.
+    fn glyphs(&mut self, count: u16) -> Result<(), CoverageFault>
+        ensures { MatchResult result
+            (λ _. fault_of (glyphs count 0 self.old.place self.old.rest.now) ≡ None)
+            (λ f. fault_of (glyphs count 0 self.old.place self.old.rest.now) ≡ Some f.place) }
+    {
+        let mut low = 0;
+        for _ in 0..count {
+            let glyph = self.word()?;
+            if u32::from(glyph.value) < low {
+                return Err(CoverageFault { place: glyph.place });
+            }
+            low = u32::from(glyph.value) + 1;
+        }
+        self.end()
+    }
+
+    /// Format 2: `count` ranges, and nothing else.
+    fn ranges(&mut self, count: u16) -> Result<(), CoverageFault>
+        ensures { MatchResult result
+            (λ _. fault_of (ranges count 0 0 self.old.place self.old.rest.now) ≡ None)
+            (λ f. fault_of (ranges count 0 0 self.old.place self.old.rest.now) ≡ Some f.place) }
+    {
+        let mut low = 0;
+        let mut seen = 0;
+        for _ in 0..count {
+            let range = self.range(low, seen)?;
+            low = u32::from(range.value.end) + 1;
+            seen += low - u32::from(range.value.start);
+        }
+        self.end()
     }
 }
 
@@ -128,9 +154,10 @@ pub fn check(bytes: &[u8]) -> Result<(), CoverageFault>
         return Err(CoverageFault { place: 2 });
     };
     let count = u16::from_be_bytes([*c0, *c1]);
+    let mut reader = Reader { rest, place: 4 };
     if format == 1 {
-        check_glyphs(count, rest)
+        reader.glyphs(count)
     } else {
-        check_ranges(count, rest)
+        reader.ranges(count)
     }
 }

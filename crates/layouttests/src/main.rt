@@ -91,29 +91,14 @@ fn covers(bytes: &[u8], glyphs: &[u16]) -> bool {
     if table.count() != glyphs.len() || table.glyph(glyphs.len()).is_some() {
         return false;
     }
-    for (index, glyph) in table.glyphs() {
-        let found = match table.index_of(glyph) {
-            Some(i) => usize::from(i) == index,
-            None => false,
-        };
-        if !found || table.glyph(index) != Some(glyph) || glyphs.get(index) != Some(&glyph) {
-            return false;
-        }
-    }
-    true
+    table.glyphs().all(|(index, glyph)| {
+        table.index_of(glyph).map(usize::from) == Some(index)
+            && table.glyph(index) == Some(glyph)
+            && glyphs.get(index) == Some(&glyph)
+    })
 }
 
-/// Whether each byte is `mark`.
-fn untouched(bytes: &[u8], mark: u8) -> bool {
-    for byte in bytes {
-        if *byte != mark {
-            return false;
-        }
-    }
-    true
-}
-
-/// Writes a list into a buffer with two bytes more than the table, into one that just fits, and into one that is a byte short.
+/// Writes a list into a buffer that the table just fits, and into one that is a byte short.
 fn try_writer<W: CoverageWriter>(
     rt: &HostRuntime,
     name: &str,
@@ -126,44 +111,39 @@ fn try_writer<W: CoverageWriter>(
     let fits = writer.write(glyphs, exact.as_mut_slice());
     let mut short = vec![in rt.alloc(); 0xa5u8; length.saturating_sub(1)]?;
     let tight = writer.write(glyphs, short.as_mut_slice());
-    let kept = untouched(short.as_slice(), 0xa5);
+    let kept = short.iter().all(|byte| *byte == 0xa5);
     let back = covers(exact.as_slice(), glyphs);
     println!(rt;
         "{name}: {count} glyphs, {length} bytes, written {fits}, read back {back}; a byte short: written {tight}, untouched {kept}"
     )
 }
 
+/// Both writers over one list.
+fn try_both(rt: &HostRuntime, glyphs: &[u16]) -> io::Result<()> {
+    try_writer(rt, "  format 1", &CoverageFormat1, glyphs)?;
+    try_writer(rt, "  table", &CoverageTable, glyphs)
+}
+
 /// Both writers over the first `keep` of each `of` glyphs.
 fn try_every(rt: &HostRuntime, keep: u16, of: u16) -> io::Result<()> {
-    let mut glyphs = Vec::new(rt.alloc());
-    for glyph in 0..=65535u16 {
-        if let Some(rest) = glyph.checked_rem(of) {
-            if rest < keep {
-                glyphs.push(glyph)?;
-            }
-        }
-    }
+    let glyphs: Vec<u16> = (0..=65535u16)
+        .filter(|glyph| glyph.checked_rem(of).is_some_and(|rest| rest < keep))
+        .collect(rt.alloc())?;
     println!(rt; "{keep} of each {of} glyphs")?;
-    try_writer(rt, "  format 1", &CoverageFormat1, glyphs.as_slice())?;
-    try_writer(rt, "  table", &CoverageTable, glyphs.as_slice())
+    try_both(rt, glyphs.as_slice())
 }
 
 /// Both writers over the glyphs from `first` to `last`.
 fn try_run(rt: &HostRuntime, first: u16, last: u16) -> io::Result<()> {
-    let mut glyphs = Vec::new(rt.alloc());
-    for glyph in first..=last {
-        glyphs.push(glyph)?;
-    }
+    let glyphs: Vec<u16> = (first..=last).collect(rt.alloc())?;
     println!(rt; "glyphs {first} to {last}")?;
-    try_writer(rt, "  format 1", &CoverageFormat1, glyphs.as_slice())?;
-    try_writer(rt, "  table", &CoverageTable, glyphs.as_slice())
+    try_both(rt, glyphs.as_slice())
 }
 
 /// Both writers over a few glyphs, and the front of a buffer that is longer than the table.
 fn try_list(rt: &HostRuntime, glyphs: &[u16]) -> io::Result<()> {
     println!(rt; "glyphs {glyphs:?}")?;
-    try_writer(rt, "  format 1", &CoverageFormat1, glyphs)?;
-    try_writer(rt, "  table", &CoverageTable, glyphs)?;
+    try_both(rt, glyphs)?;
     let mut out = [0xa5u8; 18];
     let _ = CoverageTable.write(glyphs, &mut out);
     println!(rt; "  {out:?}")

@@ -1,16 +1,18 @@
 -- A line is read as a command just where it spells that command, so it spells at most one.
-use Rattle.std.proofs.Common.{◌≡◌, ℕ, ◌^◌, ◌<◌, Bool, true, false, cond, eqb, ltb, ◌⊎◌, List, [], ◌∷◌, ◌++◌, length, take, drop, Some, None, Option, sym, refl, ap, ◌∙◌, subst, inl, inr, one-add, arith}
+use Rattle.std.proofs.Common.{◌≡◌, ℕ, ◌^◌, ◌<◌, Bool, true, false, cond, eqb, ltb, ◌⊎◌, List, [], ◌∷◌, ◌++◌, length, take, drop, Some, None, Option, Result, sym, refl, ap, ◌∙◌, subst, inl, inr, one-add, arith}
 use Rattle.std.proofs.lemmas.List.{append-nil, take-append-drop, take_at, drop_at, nil_from_length}
 use Rattle.std.proofs.lemmas.Bool.{and_parts, eqb-true, lt-ltb, ltb-true, leb-true}
 use Rattle.std.proofs.lemmas.Bool.Decides.{nat_tests}
+use Rattle.std.specs.declared.num.TryFromIntError.{TryFromIntError}
 use Rattle.std.specs.Char.{is_ascii_digit}
 use Rattle.std.specs.Option.{option_map}
 use Rattle.std.specs.List.{prefix_len}
+use Rattle.std.specs.Result.{OkIff}
 use Rattle.std.specs.Str.{all_ascii_digits}
 use Rattle.lines.specs.declared.command.Command.{Command}
 use Rattle.lines.specs.declared.command.Command.TheVariants.{Open, Split, SplitAll, Extend, Attach}
 use Rattle.lines.specs.Grammar.{spelled, Numeral, GlyphNumeral, Line, Reads}
-use Rattle.lines.specs.Reading.{when, ◌⟫◌, numeral_of, number_at, glyph_at, alone, last_number, command_of}
+use Rattle.lines.specs.Reading.{when, ◌⟫◌, numeral_of, number_at, glyph_at, alone, last_number, command_of, Converts, ConvertsFront}
 use Rattle.lines.proofs.Digits.{front_digits}
 use Rattle.lines.proofs.Steps.{after_space}
 
@@ -71,6 +73,27 @@ is_number (b ∷ bs) x e =
     let b-is = eqb-true b 32 q.0 in
     let whole = take-append-drop k bs in
     (take k bs, subst (λ m. Numeral m (take k bs)) (ap (λ p. p.0) same) (is_numeral r.0 (take k bs) (front_digits bs) r.1), cc)
+
+-- a number that was read has 32 bits, so a conversion to them refuses none
+abbrev To32 : ℕ → Result ℕ TryFromIntError → Type 0
+To32 n r = OkIff r (n < 2 ^ 32) n
+
+pub none_at : (bs : List ℕ) → ConvertsFront To32 (number_at bs) None → number_at bs ≡ None
+none_at bs = go (number_at bs) refl
+  where
+    go : (o : Option (ℕ × List ℕ)) → number_at bs ≡ o → ConvertsFront To32 o None → o ≡ None
+    go None e h = refl
+    go (Some x) e h = absurd (h.1 (is_number bs x e).1.4)
+
+pub none_last : (bs : List ℕ) → Converts To32 (last_number bs) None → last_number bs ≡ None
+none_last bs = go (last_number bs) refl
+  where
+    go : (o : Option ℕ) → last_number bs ≡ o → Converts To32 o None → o ≡ None
+    go None e h = refl
+    go (Some n) e h =
+        let p = then_some (number_at bs) alone n e in
+        let q = when_some _ p.0.0 n p.2 in
+        absurd (h.1 (subst (λ k. k < 2 ^ 32) q.1 (is_number bs p.0 p.1).1.4))
 
 glyph_is : (g : ℕ) (ds rest : List ℕ) → GlyphNumeral g ds → prefix_len is_ascii_digit rest ≡ 0 → glyph_at (32 ∷ (ds ++ rest)) ≡ Some (g, rest)
 glyph_is g ds rest h stop = rw (number_is g ds rest h.0 stop, lt-ltb g (2 ^ 16) h.1)

@@ -1,5 +1,5 @@
 -- How a line is read, from its first byte to its last.
-use Rattle.std.specs.Prelude.{ℕ, ◌^◌, Bool, cond, ◌&&◌, List, [], ◌∷◌, length, take, drop, Some, None, Option, ◌==◌, nat_le, nat_lt}
+use Rattle.std.specs.Prelude.{◌≡◌, ℕ, ◌^◌, Bool, cond, ◌&&◌, List, [], ◌∷◌, length, take, drop, Some, None, Ok, Err, Option, Result, ◌==◌, nat_le, nat_lt}
 use Rattle.std.specs.Option.{option_map}
 use Rattle.std.specs.Char.{is_ascii_digit}
 use Rattle.std.specs.List.{prefix_len}
@@ -41,6 +41,18 @@ last_number bs = number_at bs ⟫ alone
 -- the glyph that ends a line
 abbrev pub last_glyph : List ℕ → Option ℕ
 last_glyph bs = glyph_at bs ⟫ alone
+
+-- what a conversion gives of a number that was read: a value, or none where none was read or it is refused
+abbrev pub Converts : {T E : Type 0} → (ℕ → Result T E → Type 0) → Option ℕ → Option T → Type 0
+Converts gives None r = r ≡ None
+Converts gives (Some n) (Some v) = gives n (Ok v)
+Converts gives (Some n) None = (e : _) × gives n (Err e)
+
+-- the same, with the bytes that are left after the number
+abbrev pub ConvertsFront : {T E : Type 0} → (ℕ → Result T E → Type 0) → Option (ℕ × List ℕ) → Option (T × List ℕ) → Type 0
+ConvertsFront gives None r = r ≡ None
+ConvertsFront gives (Some x) (Some y) = gives x.0 (Ok y.0) × (y.1 ≡ x.1)
+ConvertsFront gives (Some x) None = (e : _) × gives x.0 (Err e)
 
 -- the command of a letter, O, S, A, E or Q, by the bytes after the letter
 abbrev pub command_by : ℕ → List ℕ → Option Command

@@ -4,7 +4,9 @@ ghost use Rattle.std.specs.List.{prefix_len};
 ghost use Rattle.std.specs.Str.{all_ascii_digits};
 ghost use Rattle.std.specs.Char.{is_ascii_digit};
 ghost use Rattle.lines.specs.Grammar.{Reads};
-ghost use Rattle.lines.specs.Reading.{numeral_of, number_at, glyph_at, last_number, last_glyph, command_by, command_of};
+ghost use Rattle.lines.specs.Reading.{numeral_of, number_at, last_number, command_by, command_of, Converts, ConvertsFront};
+
+use std::num::TryFromIntError;
 
 // The most digits that a number has.
 const MOST_DIGITS: usize = 10;
@@ -37,27 +39,28 @@ impl Command {
     }
 
     // The command of a letter, whose numbers are in `rest`.
+    #[tactic(auto, using(crate::proofs::Spells::none_at, crate::proofs::Spells::none_last))]
     fn with_letter(letter: char, rest: &[u8]) -> Option<Command>
         ensures { result ≡ command_by letter rest.now }
     {
         match letter {
             'O' => {
-                let vertex = last_number(rest)?;
+                let vertex = last(rest)?;
                 Some(Command::Open { vertex })
             }
             'S' => {
                 let (place, rest) = number(rest)?;
-                let reach = last_number(rest)?;
+                let reach = last(rest)?;
                 Some(Command::Split { place, reach })
             }
             'A' => {
-                let reach = last_number(rest)?;
+                let reach = last(rest)?;
                 Some(Command::SplitAll { reach })
             }
             'E' if rest.is_empty() => Some(Command::Extend),
             'Q' => {
-                let (mark, rest) = glyph(rest)?;
-                let base = last_glyph(rest)?;
+                let (mark, rest) = number(rest)?;
+                let base = last(rest)?;
                 Some(Command::Attach { mark, base })
             }
             _ => None,
@@ -69,12 +72,7 @@ impl Command {
 fn digit_count(text: &[u8]) -> usize
     ensures { result ≡ prefix_len is_ascii_digit text.now }
 {
-    for (count, byte) in text.iter().enumerate() {
-        if !byte.is_ascii_digit() {
-            return count;
-        }
-    }
-    text.len()
+    text.iter().take_while(|byte| byte.is_ascii_digit()).count()
 }
 
 // The number that digits spell, where there are neither too few nor too many of them and it has 32 bits.
@@ -85,6 +83,7 @@ fn numeral(digits: &[u8]) -> Option<u32>
     if digits.is_empty() || digits.len() > MOST_DIGITS {
         return None;
     }
+    // A loop and no fold, since its invariant keeps the value small enough for the next digit.
     let mut value: u64 = 0;
     for digit in digits {
         value = 10 * value + u64::from(*digit - b'0');
@@ -92,39 +91,22 @@ fn numeral(digits: &[u8]) -> Option<u32>
     u32::try_from(value).ok()
 }
 
-// The number after one space at the front, and what follows it.
-fn number(text: &[u8]) -> Option<(u32, &[u8])>
-    ensures { MatchOption result (number_at text.now ≡ None) (λ x. number_at text.now ≡ Some (x.0, x.1.now)) }
+// The number after one space at the front, in a type that may be too small for it, and what follows it.
+fn number<T: TryFrom<u32, Error = TryFromIntError>>(text: &[u8]) -> Option<(T, &[u8])>
+    ensures { MatchOption result (ConvertsFront T.try_from_gives (number_at text.now) None) (λ x. ConvertsFront T.try_from_gives (number_at text.now) (Some (x.0, x.1.now))) }
 {
     let [b' ', after @ ..] = text else {
         return None;
     };
     let (digits, rest) = after.split_at(digit_count(after));
-    let value = numeral(digits)?;
+    let value = T::try_from(numeral(digits)?).ok()?;
     Some((value, rest))
 }
 
-// The same of a glyph, which has 16 bits.
-fn glyph(text: &[u8]) -> Option<(u16, &[u8])>
-    ensures { MatchOption result (glyph_at text.now ≡ None) (λ x. glyph_at text.now ≡ Some (x.0, x.1.now)) }
+// The same number, where nothing follows it.
+fn last<T: TryFrom<u32, Error = TryFromIntError> + Drop>(text: &[u8]) -> Option<T>
+    ensures { Converts T.try_from_gives (last_number text.now) result }
 {
     let (value, rest) = number(text)?;
-    let glyph = u16::try_from(value).ok()?;
-    Some((glyph, rest))
-}
-
-// The number, where nothing follows it.
-fn last_number(text: &[u8]) -> Option<u32>
-    ensures { result ≡ last_number text.now }
-{
-    let (value, rest) = number(text)?;
-    if rest.is_empty() { Some(value) } else { None }
-}
-
-// The glyph, where nothing follows it.
-fn last_glyph(text: &[u8]) -> Option<u16>
-    ensures { result ≡ last_glyph text.now }
-{
-    let (value, rest) = glyph(text)?;
-    if rest.is_empty() { Some(value) } else { None }
+    rest.is_empty().then_some(value)
 }

@@ -1,9 +1,10 @@
 // The lines that are printed, each with the line feed that ends it.
-ghost use Rattle.std.specs.Prelude.{◌≡◌, ◌++◌, IfOk, string_bytes};
+ghost use Rattle.std.specs.Prelude.{◌≡◌, ◌++◌, Some, IfOk, IfSome};
 ghost use Rattle.lines.specs.Printed.{unknown_line, refused_line, done_line, hit_line, none_line, anchor_text, DigitsSpell};
 
 use refusal::Refusal;
 use std::alloc::{AllocError, Global};
+use std::fmt;
 
 // The answer to a line that spells no command.
 pub fn unknown_line(heap: Global) -> Result<Vec<u8>, AllocError>
@@ -17,16 +18,14 @@ pub fn refused_line(heap: Global, echo: &[u8], refusal: Refusal) -> Result<Vec<u
     ensures line { IfOk result (λ v. v.items ≡ refused_line echo.now refusal) }
     ensures digits { DigitsSpell }
 {
-    let said = format!(in heap; " refused {refusal}\n")?;
-    reply(heap, echo, said.as_str())
+    reply(heap, echo, format_args!(" refused {refusal}\n"))
 }
 
 // The answer to a call that gave a number: its echo, and the number.
 pub fn done_line(heap: Global, echo: &[u8], answer: u32) -> Result<Vec<u8>, AllocError>
     ensures { IfOk result (λ v. v.items ≡ done_line echo.now answer) }
 {
-    let said = format!(in heap; " done {answer}\n")?;
-    reply(heap, echo, said.as_str())
+    reply(heap, echo, format_args!(" done {answer}\n"))
 }
 
 // The answer to a call that found a hit: its echo, and both anchors.
@@ -38,10 +37,8 @@ pub fn hit_line(
 ) -> Result<Vec<u8>, AllocError>
     ensures { IfOk result (λ v. v.items ≡ hit_line echo.now mark base) }
 {
-    let mark = anchor_text(heap, mark)?;
-    let base = anchor_text(heap, base)?;
-    let said = format!(in heap; " done {mark} {base}\n")?;
-    reply(heap, echo, said.as_str())
+    let (mark, base) = (Anchor(mark), Anchor(base));
+    reply(heap, echo, format_args!(" done {mark} {base}\n"))
 }
 
 // The answer to a call that found no hit.
@@ -51,21 +48,26 @@ pub fn none_line(heap: Global, echo: &[u8]) -> Result<Vec<u8>, AllocError>
     reply(heap, echo, " none\n")
 }
 
-// An anchor's number, or a dash where it is null.
-fn anchor_text(heap: Global, anchor: Option<u32>) -> Result<String, AllocError>
-    ensures { IfOk result (λ t. string_bytes t ≡ anchor_text anchor) }
-{
-    match anchor {
-        Some(v) => format!(in heap; "{v}"),
-        None => String::from_str(heap, "-"),
+// An anchor, which is printed as its number, or as a dash where it is null.
+#[derive(Clone, Copy)]
+struct Anchor(Option<u32>);
+
+impl fmt::Display for Anchor {
+    ghost output = { λ a. Some (anchor_text a.0) };
+
+    fn fmt<W: fmt::Write>(&self, f: &mut fmt::Formatter<W>) -> fmt::Result {
+        match self.0 {
+            Some(number) => write!(f, "{number}"),
+            None => f.write_str("-"),
+        }
     }
 }
 
 // The echo of a call, and what is said of it.
-fn reply(heap: Global, echo: &[u8], said: &str) -> Result<Vec<u8>, AllocError>
-    ensures { IfOk result (λ v. v.items ≡ echo.now ++ said.now) }
+fn reply<D: fmt::Display + Drop>(heap: Global, echo: &[u8], said: D) -> Result<Vec<u8>, AllocError>
+    ensures { IfOk result (λ v. IfSome (D.output said) (λ text. v.items ≡ echo.now ++ text)) }
 {
     let mut line = Vec::from_slice(heap, echo)?;
-    line.extend_from_slice(said.as_bytes())?;
+    line.extend_from_slice(format!(in heap; "{said}")?.as_bytes())?;
     Ok(line)
 }

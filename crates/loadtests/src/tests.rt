@@ -1,10 +1,11 @@
 // What `load` answers, and what it leaves.
-use crate::files::{file, with_trailer};
 use graph::vertex::Capacity;
 use refusal::{Refusal, Shortage};
+use serialize::object_file::LinkRecord;
 use std::alloc::Global;
 use std::process::Abort;
 use std::test::Fail;
+use walktests::files::{file, record, with_trailer};
 use workspace::state::Workspace;
 use workspace::supply::Supply;
 
@@ -22,7 +23,10 @@ const AREA: [u8; 14] = [1, 2, 3, 4, 0, 0, 0, 0, 0, 0, 0, 9, 0, 0];
 
 const LENGTHS: [u32; 3] = [4, 8, 2];
 
-const RECORDS: [[u32; 4]; 3] = [[1, 0, 0, 2], [1, 2, 1, 3], [1, 5, 2, 2]];
+// The second's links.
+fn linked() -> [LinkRecord; 3] {
+    [record(1, 0, 0, 2), record(1, 2, 1, 3), record(1, 5, 2, 2)]
+}
 
 fn check_load(
     rt: &impl Abort,
@@ -39,7 +43,7 @@ fn check_load(
 fn check_records(
     rt: &impl Abort,
     heap: Global,
-    records: [[u32; 4]; 3],
+    records: [LinkRecord; 3],
     answer: Result<u32, Refusal>,
     note: &str,
 ) -> Result<(), Fail> {
@@ -69,13 +73,13 @@ fn shortest(rt: HostRuntime) -> Result<(), Fail> {
 #[test]
 fn trailer_words(rt: HostRuntime) -> Result<(), Fail> {
     let heap = rt.alloc();
-    let right = file(heap, &AREA, &LENGTHS, &RECORDS)?;
+    let right = file(heap, &AREA, &LENGTHS, &linked())?;
     check_load(&rt, heap, right.as_slice(), Ok(3), "right")?;
     for i in 0..5usize {
         for change in [1, 0xffff_ffff] {
             let mut off = [0; 5];
             off[i] = change;
-            let wrong = with_trailer(heap, &AREA, &LENGTHS, &RECORDS, off)?;
+            let wrong = with_trailer(heap, &AREA, &LENGTHS, &linked(), off)?;
             check_load(
                 &rt,
                 heap,
@@ -118,7 +122,7 @@ fn lengths(rt: HostRuntime) -> Result<(), Fail> {
 #[test]
 fn capacities(rt: HostRuntime) -> Result<(), Fail> {
     let heap = rt.alloc();
-    let bytes = file(heap, &AREA, &LENGTHS, &RECORDS)?;
+    let bytes = file(heap, &AREA, &LENGTHS, &linked())?;
     let rows = [
         (3, 3, 14, Ok(3)),
         (2, 3, 14, Err(Refusal::FileTooLarge(Shortage::Vertices))),
@@ -157,7 +161,7 @@ fn limits(rt: HostRuntime) -> Result<(), Fail> {
 #[test]
 fn lists(rt: HostRuntime) -> Result<(), Fail> {
     let heap = rt.alloc();
-    let bytes = file(heap, &AREA, &LENGTHS, &RECORDS)?;
+    let bytes = file(heap, &AREA, &LENGTHS, &linked())?;
     let rows = [
         (65_535, 65_535, 8, Ok(3)),
         (65_536, 65_536, 9, Ok(3)),
@@ -197,77 +201,142 @@ fn lists(rt: HostRuntime) -> Result<(), Fail> {
     Ok(())
 }
 
-// Each rule of a link record, broken at the first, a middle and the last record.
-#[test]
-fn records(rt: HostRuntime) -> Result<(), Fail> {
-    let heap = rt.alloc();
-    let rows = [
-        ("parent", [[3, 0, 0, 2], [3, 2, 1, 3], [3, 5, 2, 2]]),
-        ("child", [[1, 0, 3, 2], [1, 2, 3, 3], [1, 5, 3, 2]]),
-        ("width 0", [[1, 0, 0, 0], [1, 2, 1, 0], [1, 5, 2, 0]]),
-        ("width 1", [[1, 0, 0, 1], [1, 2, 1, 1], [1, 5, 2, 1]]),
-        ("width 5", [[1, 0, 0, 5], [1, 2, 1, 5], [1, 5, 2, 5]]),
-        ("past the end", [[1, 7, 0, 2], [1, 6, 1, 3], [1, 8, 2, 2]]),
-        (
-            "far past the end",
-            [
-                [1, 0xffff_ffff, 0, 2],
-                [1, 0xffff_fffe, 1, 3],
-                [1, 0xffff_ffff, 2, 4],
-            ],
-        ),
-        (
-            "in another vertex",
-            [[0, 3, 0, 2], [0, 2, 1, 3], [2, 1, 2, 2]],
-        ),
-        ("not zero", [[0, 0, 0, 2], [1, 5, 1, 3], [1, 6, 2, 2]]),
-    ];
+// Each row breaks a rule at the first, a middle and the last record.
+fn check_each(rt: &impl Abort, heap: Global, rows: &[(&str, [LinkRecord; 3])]) -> Result<(), Fail> {
     for (note, broken) in rows {
-        for i in 0..3usize {
-            let mut all = RECORDS;
-            all[i] = broken[i];
-            check_records(
-                &rt,
-                heap,
-                all,
-                Err(Refusal::BadLink { record: i as u32 }),
-                note,
-            )?;
+        for (i, one) in broken.iter().enumerate() {
+            let mut all = linked();
+            all[i] = *one;
+            let answer = Err(Refusal::BadLink { record: i as u32 });
+            check_records(rt, heap, all, answer, note)?;
         }
     }
     Ok(())
 }
 
-// Records that break a rule only with one before them: equal, overlapping, out of order by position or by parent.
+// The rules of a link record for its vertices and its width.
+#[test]
+fn records(rt: HostRuntime) -> Result<(), Fail> {
+    let rows = [
+        (
+            "parent",
+            [record(3, 0, 0, 2), record(3, 2, 1, 3), record(3, 5, 2, 2)],
+        ),
+        (
+            "child",
+            [record(1, 0, 3, 2), record(1, 2, 3, 3), record(1, 5, 3, 2)],
+        ),
+        (
+            "width 0",
+            [record(1, 0, 0, 0), record(1, 2, 1, 0), record(1, 5, 2, 0)],
+        ),
+        (
+            "width 1",
+            [record(1, 0, 0, 1), record(1, 2, 1, 1), record(1, 5, 2, 1)],
+        ),
+        (
+            "width 5",
+            [record(1, 0, 0, 5), record(1, 2, 1, 5), record(1, 5, 2, 5)],
+        ),
+    ];
+    check_each(&rt, rt.alloc(), &rows)
+}
+
+// The rules for its field.
+#[test]
+fn fields(rt: HostRuntime) -> Result<(), Fail> {
+    let rows = [
+        (
+            "past the end",
+            [record(1, 7, 0, 2), record(1, 6, 1, 3), record(1, 8, 2, 2)],
+        ),
+        (
+            "far past the end",
+            [
+                record(1, 0xffff_ffff, 0, 2),
+                record(1, 0xffff_fffe, 1, 3),
+                record(1, 0xffff_ffff, 2, 4),
+            ],
+        ),
+        (
+            "in another vertex",
+            [record(0, 3, 0, 2), record(0, 2, 1, 3), record(2, 1, 2, 2)],
+        ),
+        (
+            "not zero",
+            [record(0, 0, 0, 2), record(1, 5, 1, 3), record(1, 6, 2, 2)],
+        ),
+    ];
+    check_each(&rt, rt.alloc(), &rows)
+}
+
+// Each row breaks a rule at one record, only with one before it.
+fn check_order(
+    rt: &impl Abort,
+    heap: Global,
+    rows: &[(&str, u32, [LinkRecord; 3])],
+) -> Result<(), Fail> {
+    for (note, i, all) in rows {
+        let answer = Err(Refusal::BadLink { record: *i });
+        check_records(rt, heap, *all, answer, note)?;
+    }
+    Ok(())
+}
+
+// Equal, overlapping, and out of order by position.
 #[test]
 fn order(rt: HostRuntime) -> Result<(), Fail> {
-    let heap = rt.alloc();
     let rows = [
-        ("equal", 1, [[1, 0, 0, 2], [1, 0, 0, 2], [1, 5, 2, 2]]),
-        ("overlap", 1, [[1, 0, 0, 2], [1, 1, 1, 3], [1, 5, 2, 2]]),
+        (
+            "equal",
+            1,
+            [record(1, 0, 0, 2), record(1, 0, 0, 2), record(1, 5, 2, 2)],
+        ),
+        (
+            "overlap",
+            1,
+            [record(1, 0, 0, 2), record(1, 1, 1, 3), record(1, 5, 2, 2)],
+        ),
         (
             "overlap by one",
             2,
-            [[1, 0, 0, 2], [1, 2, 1, 3], [1, 4, 2, 2]],
+            [record(1, 0, 0, 2), record(1, 2, 1, 3), record(1, 4, 2, 2)],
         ),
-        ("inside", 2, [[1, 0, 0, 2], [1, 2, 1, 4], [1, 3, 2, 2]]),
-        ("position", 1, [[1, 2, 0, 2], [1, 0, 1, 2], [1, 5, 2, 2]]),
+        (
+            "inside",
+            2,
+            [record(1, 0, 0, 2), record(1, 2, 1, 4), record(1, 3, 2, 2)],
+        ),
+        (
+            "position",
+            1,
+            [record(1, 2, 0, 2), record(1, 0, 1, 2), record(1, 5, 2, 2)],
+        ),
         (
             "position of the last",
             2,
-            [[1, 0, 0, 2], [1, 4, 1, 2], [1, 2, 2, 2]],
+            [record(1, 0, 0, 2), record(1, 4, 1, 2), record(1, 2, 2, 2)],
         ),
-        ("parent", 1, [[2, 0, 0, 2], [1, 0, 1, 2], [1, 5, 2, 2]]),
+    ];
+    check_order(&rt, rt.alloc(), &rows)
+}
+
+// Out of order by parent.
+#[test]
+fn order_of_parents(rt: HostRuntime) -> Result<(), Fail> {
+    let rows = [
+        (
+            "parent",
+            1,
+            [record(2, 0, 0, 2), record(1, 0, 1, 2), record(1, 5, 2, 2)],
+        ),
         (
             "parent of the last",
             2,
-            [[1, 0, 0, 2], [2, 0, 1, 2], [1, 5, 2, 2]],
+            [record(1, 0, 0, 2), record(2, 0, 1, 2), record(1, 5, 2, 2)],
         ),
     ];
-    for (note, i, all) in rows {
-        check_records(&rt, heap, all, Err(Refusal::BadLink { record: i }), note)?;
-    }
-    Ok(())
+    check_order(&rt, rt.alloc(), &rows)
 }
 
 // A self-link, a cycle, a child with two parents, fields side by side and of all widths.
@@ -276,10 +345,10 @@ fn accepted(rt: HostRuntime) -> Result<(), Fail> {
     let heap = rt.alloc();
     let zeros = [0; 14];
     let rows = [
-        [[0, 0, 0, 4], [1, 0, 1, 2], [2, 0, 2, 2]],
-        [[0, 0, 1, 2], [1, 0, 2, 2], [2, 0, 0, 2]],
-        [[0, 0, 2, 2], [0, 2, 2, 2], [1, 0, 2, 2]],
-        [[1, 0, 0, 2], [1, 2, 0, 3], [1, 5, 0, 3]],
+        [record(0, 0, 0, 4), record(1, 0, 1, 2), record(2, 0, 2, 2)],
+        [record(0, 0, 1, 2), record(1, 0, 2, 2), record(2, 0, 0, 2)],
+        [record(0, 0, 2, 2), record(0, 2, 2, 2), record(1, 0, 2, 2)],
+        [record(1, 0, 0, 2), record(1, 2, 0, 3), record(1, 5, 0, 3)],
     ];
     for all in rows {
         let bytes = file(heap, &zeros, &LENGTHS, &all)?;
@@ -311,7 +380,7 @@ fn objects(rt: HostRuntime) -> Result<(), Fail> {
     assert_eq!(rt; w.vertex_count(), 0);
     assert_eq!(rt; w.made(), 0);
     assert_eq!(rt;
-        w.load(file(heap, &AREA, &LENGTHS, &RECORDS)?.as_slice()),
+        w.load(file(heap, &AREA, &LENGTHS, &linked())?.as_slice()),
         Ok(3)
     );
     assert_eq!(rt; w.load(&[]), Err(Refusal::BadFile));

@@ -1,5 +1,5 @@
 -- What is wrong with a subtable, from what was read and counted.
-use Rattle.std.proofs.Common.{◌≡◌, ℕ, ◌+◌, ◌<◌, true, cond, ltb, List, [], ◌∷◌, length, get_or, drop, is_ok, Some, None, Ok, Err, Option, Result, sym, refl, ap, ◌∙◌, arith}
+use Rattle.std.proofs.Common.{◌≡◌, ℕ, ◌+◌, ◌<◌, true, List, [], ◌∷◌, length, get_or, drop, is_ok, Some, None, Ok, Err, Option, Result, sym, refl, ap, ◌∙◌, arith}
 use Rattle.std.proofs.lemmas.List.{at_drop_more}
 use Rattle.std.specs.Option.{option_map}
 use Rattle.refusal.specs.declared.Part.{Part}
@@ -10,41 +10,26 @@ use Rattle.markbase.specs.declared.fault.PartFault.{PartFault}
 use Rattle.markbase.specs.declared.lookup_type.LookupType.{LookupType}
 use Rattle.markbase.specs.Parts.{subtable_of, info_of}
 use Rattle.markbase.specs.declared.parts.TableInfo.{TableInfo}
-use Rattle.lookups.specs.Judging.{shared_or, extension_or, shared_part, placed_at, wrong_with, or_else, wrong_among, wrong_lookup, Counted}
+use Rattle.lookups.specs.Judging.{shared_part, wrong_with, or_else, wrong_among, wrong_lookup}
 use Rattle.lookups.specs.declared.lookup.LookupHead.{LookupHead}
 use Rattle.markbase.specs.Nodes.{node_of, read}
 use Rattle.lookups.specs.declared.lookup.Lookup.{Lookup}
 use Rattle.lookups.specs.Tables.{Fields, lookup, head_of}
-use Rattle.lookups.specs.Views.{offsets_in, offsets_of, LookupStands}
+use Rattle.lookups.specs.Views.{offsets_in, offsets_of}
 use Rattle.lookups.proofs.Offsets.{head_found, offsets_count, valued_ok}
 use Rattle.markbase.specs.Values.{Subtable}
 use Rattle.lookups.specs.declared.fault.LookupFault.{LookupFault}
 use Rattle.lookups.specs.Faults.{placed}
 use Rattle.lookups.specs.Values.{also, subtables_from, lookup_from}
 
--- equal counts give equal answers
-module _ (f g : ℕ → ℕ) (same : (v : ℕ) → f v ≡ g v) where
-  or_same : (p : Part) (v : ℕ) (x y : Option Part) → x ≡ y → shared_or f p v x ≡ shared_or g p v y
-  or_same p v x y e = ap (λ (n : ℕ). cond (ltb 1 n) (Some p) x) (same v) ∙ ap (λ (z : Option Part). cond (ltb 1 (g v)) (Some p) z) e
-
-  extension_same : (o : Option ℕ) (x y : Option Part) → x ≡ y → extension_or f o x ≡ extension_or g o y
-  extension_same None x y e = e
-  extension_same (Some v) x y e = or_same _ v x y e
-
-  pub shared_same : (t : TableInfo) → shared_part f t ≡ shared_part g t
-  shared_same t =
-      extension_same t.extension _ _
-      (or_same _ t.vertex _ _ (or_same _ t.table.mark_coverage _ _ (or_same _ t.table.mark_array _ _ (or_same _ t.table.base_array None None refl))))
-
-placed_ok : (i : ℕ) (x : Result TableInfo PartFault) (t : TableInfo) → placed_at i x ≡ Ok t → x ≡ Ok t
+placed_ok : (i : ℕ) (x : Result TableInfo PartFault) (t : TableInfo) → placed i x ≡ Ok t → x ≡ Ok t
 placed_ok i (Ok s) t e = cc
 placed_ok i (Err f) t e = let z : ◌≡◌ {A = ℕ} 0 1 = cc in absurd (omega arith)
 
 -- a subtable that could be read: only a shared part is wrong with it
-pub wrong_read : (nodes : List Node) (counts : List ℕ) (i : ℕ) (x : Result TableInfo PartFault) (y : Result TableInfo Refusal) (t : TableInfo) (o : Option Part) → Counted nodes counts
-    → y ≡ placed_at i x → y ≡ Ok t → o ≡ shared_part (λ v. get_or counts v 0) t → wrong_with nodes i x ≡ option_map (SharedPart i) o
-wrong_read nodes counts i x y t o counted p q s =
-    ap (wrong_with nodes i) (placed_ok i x t (sym p ∙ q)) ∙ ap (option_map (SharedPart i)) (sym (s ∙ shared_same (λ v. get_or counts v 0) (incoming nodes) counted t))
+pub wrong_read : (nodes : List Node) (i : ℕ) (x : Result TableInfo PartFault) (y : Result TableInfo LookupFault) (t : TableInfo) (o : Option Part)
+    → y ≡ placed i x → y ≡ Ok t → o ≡ shared_part (incoming nodes) t → wrong_with nodes i x ≡ option_map (SharedPart i) o
+wrong_read nodes i x y t o p q s = ap (wrong_with nodes i) (placed_ok i x t (sym p ∙ q)) ∙ ap (option_map (SharedPart i)) (sym s)
 
 -- what is wrong from a place on, where the subtable there is known
 pub wrong_next : (nodes : List Node) (kind kind' : LookupType) (vs : List ℕ) (i i' v : ℕ) (w : Option Refusal) → i < length vs → i' ≡ i → kind' ≡ kind → v ≡ get_or vs i 0
@@ -62,14 +47,14 @@ wrong_fields nodes x h e =
     ap (wrong_lookup nodes) f.is ∙ (ap (λ (k : LookupType). wrong_among nodes k 0 f.fields.offsets) f.kind ∙ ap (λ (y : Result Fields ℕ). wrong_among nodes h.kind 0 (offsets_in y)) (sym f.is))
 
 -- the same of a view of a vertex
-module _ (nodes : List Node) (l : Lookup) (x : Node) (is : node_of l.vertex ≡ x) (s : LookupStands l) where
+module _ (nodes : List Node) (l : Lookup) (x : Node) (is : node_of l.vertex ≡ x) where
   pub wrong_view : wrong_lookup nodes (read lookup x) ≡ wrong_among nodes l.head.kind 0 (offsets_of l)
   unfolding offsets_of
-  wrong_view = ap (λ (y : Node). wrong_lookup nodes (read lookup y)) (sym is) ∙ wrong_fields nodes (read lookup (node_of l.vertex)) l.head s.head
+  wrong_view = ap (λ (y : Node). wrong_lookup nodes (read lookup y)) (sym is) ∙ wrong_fields nodes (read lookup (node_of l.vertex)) l.head l.stands
 
   pub count_view : length (offsets_in (read lookup x)) ≡ l.head.count
   unfolding offsets_of
-  count_view = ap (λ (y : Node). length (offsets_in (read lookup y))) (sym is) ∙ offsets_count l s
+  count_view = ap (λ (y : Node). length (offsets_in (read lookup y))) (sym is) ∙ offsets_count l
 
 -- where nothing is wrong with a subtable and with those behind it, they can be read
 one_more : (nodes : List Node) (i : ℕ) (s : Result Subtable PartFault) (later : Result (List Subtable) LookupFault) (o : Option Refusal)

@@ -1,5 +1,5 @@
 -- The hits of subtables that were read, one subtable after the other.
-use Rattle.std.proofs.Common.{◌≡◌, ℕ, ◌+◌, ◌<◌, true, false, List, [], length, get_or, drop, is_some, is_ok, Some, None, Ok, Err, Option, Result, sym, refl, ap, ◌∙◌}
+use Rattle.std.proofs.Common.{◌≡◌, ℕ, zero, suc, ◌+◌, ◌<◌, true, List, [], ◌∷◌, length, get_or, MatchOption, is_ok, Some, None, Ok, Err, Option, Result, sym, refl, ap, ◌∙◌, arith}
 use Rattle.std.proofs.lemmas.Bool.{true≢false}
 use Rattle.serialize.specs.Objects.{Node}
 use Rattle.markbase.specs.declared.fault.PartFault.{PartFault}
@@ -13,7 +13,6 @@ use Rattle.lookups.specs.Tables.{Fields}
 use Rattle.lookups.specs.Faults.{placed}
 use Rattle.lookups.specs.Values.{also, subtables_from, valued}
 use Rattle.lookups.specs.Hits.{joined, hits_in, first, attach_in, contents_in}
-use Rattle.lookups.proofs.Walks.{from_next}
 
 -- the hits of subtables that were read
 abbrev pub hits_of : Result (List Subtable) LookupFault → ℕ → ℕ → List Hit
@@ -31,37 +30,42 @@ also_known i (Ok t) (Ok ts) m b e = (refl, refl, refl)
 also_known i (Ok t) (Err f) m b e = absurd (true≢false (sym e))
 also_known i (Err f) xs m b e = absurd (true≢false (sym e))
 
-first_some : (o : Option Hit) (hs : List Hit) → is_some o ≡ true → first (joined o hs) ≡ o
-first_some (Some h) hs e = refl
-first_some None hs e = absurd (true≢false (sym e))
+module _ (nodes : List Node) (kind : LookupType) (m b : ℕ) where
+  -- the hit in the subtable that the offset at a place leads to
+  abbrev pub hit_at : List ℕ → ℕ → Option Hit
+  hit_at vs i = hit_of (contents_in (subtable_of nodes kind (get_or vs i 0))) m b
 
-past_none : (o : Option Hit) (hs : List Hit) → is_some o ≡ false → joined o hs ≡ hs
-past_none (Some h) hs e = absurd (true≢false e)
-past_none None hs e = refl
+  next_known : (j v : ℕ) (vs : List ℕ) → is_ok (subtables_from nodes kind j (v ∷ vs)) ≡ true
+      → (is_ok (subtable_of nodes kind v) ≡ true) × (is_ok (subtables_from nodes kind (j + 1) vs) ≡ true)
+      × (hits_of (subtables_from nodes kind j (v ∷ vs)) m b ≡ joined (hit_of (contents_in (subtable_of nodes kind v)) m b) (hits_of (subtables_from nodes kind (j + 1) vs) m b))
+  next_known j v vs ok = also_known j (subtable_of nodes kind v) (subtables_from nodes kind (j + 1) vs) m b ok
 
-module _ (nodes : List Node) (kind : LookupType) (vs : List ℕ) (i : ℕ) (lt : i < length vs) (ok : is_ok (subtables_from nodes kind i (drop i vs)) ≡ true) (m b : ℕ) where
-  abbrev here : Result Subtable PartFault
-  here = subtable_of nodes kind (get_or vs i 0)
+  -- each of the subtables that were read was read
+  pub known_at : (j : ℕ) (vs : List ℕ) (i : ℕ) → is_ok (subtables_from nodes kind j vs) ≡ true → i < length vs → is_ok (subtable_of nodes kind (get_or vs i 0)) ≡ true
+  known_at j [] i ok lt = absurd (omega arith)
+  known_at j (v ∷ vs) zero ok lt = (next_known j v vs ok).0
+  known_at j (v ∷ vs) (suc i) ok lt = known_at (j + 1) vs i (next_known j v vs ok).1 (omega arith)
 
-  abbrev later : Result (List Subtable) LookupFault
-  later = subtables_from nodes kind (i + 1) (drop (i + 1) vs)
+  -- the first hit is that of the first subtable that has one
+  first_hit : (j : ℕ) (vs : List ℕ) (i : ℕ) (h : Hit) → is_ok (subtables_from nodes kind j vs) ≡ true → i < length vs → hit_at vs i ≡ Some h → ((k : ℕ) → k < i → hit_at vs k ≡ None) → Some h ≡ first (hits_of (subtables_from nodes kind j vs) m b)
+  first_hit j [] i h ok lt is before = absurd (omega arith)
+  first_hit j (v ∷ vs) zero h ok lt is before =
+      let n = next_known j v vs ok in
+      sym (ap first n.2 ∙ ap (λ o. first (joined o (hits_of (subtables_from nodes kind (j + 1) vs) m b))) is)
+  first_hit j (v ∷ vs) (suc i) h ok lt is before =
+      let n = next_known j v vs ok in
+      first_hit (j + 1) vs i h n.1 (omega arith) is (λ k lt. before (suc k) (omega arith))
+      ∙ sym (ap first n.2 ∙ ap (λ o. first (joined o (hits_of (subtables_from nodes kind (j + 1) vs) m b))) (before 0 (omega arith)))
 
-  known : (is_ok here ≡ true) × (is_ok later ≡ true) × (hits_of (also (placed i here) later) m b ≡ joined (hit_of (contents_in here) m b) (hits_of later m b))
-  known = also_known i here later m b (sym (ap is_ok (from_next nodes kind vs i lt)) ∙ ok)
+  no_hit : (j : ℕ) (vs : List ℕ) → is_ok (subtables_from nodes kind j vs) ≡ true → ((k : ℕ) → k < length vs → hit_at vs k ≡ None) → None ≡ first (hits_of (subtables_from nodes kind j vs) m b)
+  no_hit j [] ok each = refl
+  no_hit j (v ∷ vs) ok each =
+      let n = next_known j v vs ok in
+      no_hit (j + 1) vs n.1 (λ k lt. each (suc k) (omega arith))
+      ∙ sym (ap first n.2 ∙ ap (λ o. first (joined o (hits_of (subtables_from nodes kind (j + 1) vs) m b))) (each 0 (omega arith)))
 
-  pub here_known : is_ok here ≡ true
-  here_known = known.0
-
-  pub later_known : is_ok later ≡ true
-  later_known = known.1
-
-  hits_next : hits_of (subtables_from nodes kind i (drop i vs)) m b ≡ joined (hit_of (contents_in here) m b) (hits_of later m b)
-  hits_next = ap (λ x. hits_of x m b) (from_next nodes kind vs i lt) ∙ known.2
-
-  -- o is the hit here, if there is one
-  module _ (o : Option Hit) (e : o ≡ hit_of (contents_in here) m b) where
-    pub hit_here : is_some o ≡ true → first (hits_of (subtables_from nodes kind i (drop i vs)) m b) ≡ o
-    hit_here t = ap first (hits_next ∙ ap (λ o. joined o (hits_of later m b)) (sym e)) ∙ first_some o (hits_of later m b) t
-
-    pub hit_later : is_some o ≡ false → hits_of (subtables_from nodes kind i (drop i vs)) m b ≡ hits_of later m b
-    hit_later t = hits_next ∙ ap (λ o. joined o (hits_of later m b)) (sym e) ∙ past_none o (hits_of later m b) t
+  -- what a search through the places finds
+  pub found_first : (vs : List ℕ) (n : ℕ) (r : Option Hit) → is_ok (subtables_from nodes kind 0 vs) ≡ true → length vs ≡ n
+      → MatchOption r ((k : ℕ) → k < n → hit_at vs k ≡ None) (λ h. (i : ℕ) × (i < n) × (hit_at vs i ≡ Some h) × ((k : ℕ) → k < i → hit_at vs k ≡ None)) → r ≡ first (hits_of (subtables_from nodes kind 0 vs) m b)
+  found_first vs n None ok many each = no_hit 0 vs ok (λ k lt. each k (omega arith))
+  found_first vs n (Some h) ok many f = first_hit 0 vs f.0 h ok (omega (arith, f.1)) f.2 f.3

@@ -3,3 +3,5 @@ mod Offsets
 mod Walks
 mod Known
 pub mod Judged
+mod Places
+mod Shared

@@ -14,7 +14,7 @@ use Rattle.lookups.specs.declared.lookup.LookupHead.{LookupHead}
 use Rattle.lookups.specs.Tables.{Fields, filters, lookup, head_of}
 use Rattle.lookups.specs.declared.fault.LookupFault.{LookupFault}
 use Rattle.lookups.specs.Values.{valued, subtables_from, lookup_from, lookup_of}
-use Rattle.lookups.specs.Views.{offsets_in, offsets_of, LookupStands}
+use Rattle.lookups.specs.Views.{offsets_in, offsets_of}
 
 -- the fields of a lookup that was read
 pub record Found (x : Result Fields ℕ) (h : LookupHead) : Type 0 where
@@ -60,30 +60,30 @@ module _ (x : Node) (up : Ascends x.links) (f : Fields) (e : read lookup x ≡ O
       let r = offset_at i h in
       omega (arith, (offset_ok Two (seek (6 + 2 * i) x.bytes x.links) (get_or f.offsets i 0) r.0 r.1).long, length-drop (6 + 2 * i) x.bytes)
 
--- a view that stands
-pub fields_of : (l : Lookup) → LookupStands l → Found (read lookup (node_of l.vertex)) l.head
-fields_of l s = head_found (read lookup (node_of l.vertex)) l.head s.head
+-- a view
+pub fields_of : (l : Lookup) → Found (read lookup (node_of l.vertex)) l.head
+fields_of l = head_found (read lookup (node_of l.vertex)) l.head l.stands
 
-pub offsets_are : (l : Lookup) (s : LookupStands l) → offsets_of l ≡ (fields_of l s).fields.offsets
+pub offsets_are : (l : Lookup) → offsets_of l ≡ (fields_of l).fields.offsets
 unfolding offsets_of
-offsets_are l s = ap offsets_in (fields_of l s).is
+offsets_are l = ap offsets_in (fields_of l).is
 
-pub subtable_at_lem : (l : Lookup) (s : LookupStands l) (i : ℕ) → i < l.head.count
+pub subtable_at_lem : (l : Lookup) (i : ℕ) → i < l.head.count
     → (6 + 2 * i ≤ length (node_of l.vertex).bytes) × ((u : Rest) × (offset Two (seek (6 + 2 * i) (node_of l.vertex).bytes (node_of l.vertex).links) ≡ Ok (get_or (offsets_of l) i 0, u)))
-subtable_at_lem l s i h =
-    let r = fields_of l s in
+subtable_at_lem l i h =
+    let r = fields_of l in
     let lt : i < length r.fields.offsets = omega (arith, r.count) in
-    let o = offset_at (node_of l.vertex) s.ascending r.fields r.is i lt in
-    (offset_within (node_of l.vertex) s.ascending r.fields r.is i lt, (o.0, o.1 ∙ ap (λ vs. Ok (get_or vs i 0, o.0)) (sym (offsets_are l s))))
+    let o = offset_at (node_of l.vertex) l.ascending r.fields r.is i lt in
+    (offset_within (node_of l.vertex) l.ascending r.fields r.is i lt, (o.0, o.1 ∙ ap (λ vs. Ok (get_or vs i 0, o.0)) (sym (offsets_are l))))
 
-pub offsets_count : (l : Lookup) → LookupStands l → length (offsets_of l) ≡ l.head.count
-offsets_count l s = ap length (offsets_are l s) ∙ (fields_of l s).count
+pub offsets_count : (l : Lookup) → length (offsets_of l) ≡ l.head.count
+offsets_count l = ap length (offsets_are l) ∙ (fields_of l).count
 
 -- the lookup that a view stands for
-pub lookup_is : (nodes : List Node) (v : ℕ) (l : Lookup) → node_of l.vertex ≡ node_at nodes v → (s : LookupStands l) → lookup_of nodes v ≡ valued (fields_of l s).fields (subtables_from nodes l.head.kind 0 (offsets_of l))
-lookup_is nodes v l here s =
-    let f = fields_of l s in
-    ap (λ (x : Node). lookup_from nodes (read lookup x)) (sym here) ∙ ap (lookup_from nodes) f.is ∙ (λ i. valued f.fields (subtables_from nodes (f.kind i) 0 (sym (offsets_are l s) i)))
+pub lookup_is : (nodes : List Node) (v : ℕ) (l : Lookup) → node_of l.vertex ≡ node_at nodes v → lookup_of nodes v ≡ valued (fields_of l).fields (subtables_from nodes l.head.kind 0 (offsets_of l))
+lookup_is nodes v l here =
+    let f = fields_of l in
+    ap (λ (x : Node). lookup_from nodes (read lookup x)) (sym here) ∙ ap (lookup_from nodes) f.is ∙ (λ i. valued f.fields (subtables_from nodes (f.kind i) 0 (sym (offsets_are l) i)))
 
 pub valued_ok : (f : Fields) (x : Result (List Subtable) LookupFault) → is_ok (valued f x) ≡ is_ok x
 valued_ok f (Ok ts) = refl

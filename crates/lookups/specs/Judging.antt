@@ -35,11 +35,6 @@ abbrev pub wrong_with : List Node → ℕ → Result TableInfo PartFault → Opt
 wrong_with nodes i (Err f) = Some (BrokenPart i f.part f.place)
 wrong_with nodes i (Ok t) = option_map (SharedPart i) (shared_part (incoming nodes) t)
 
--- the same of the answer that was read
-abbrev pub placed_at : ℕ → Result TableInfo PartFault → Result TableInfo Refusal
-placed_at i (Ok t) = Ok t
-placed_at i (Err f) = Err (BrokenPart i f.part f.place)
-
 -- the first that is wrong, or else what comes after it
 abbrev pub or_else : Option Refusal → Option Refusal → Option Refusal
 or_else (Some e) next = Some e

@@ -10,7 +10,6 @@ use Rattle.lookups.specs.declared.fault.LookupFault.TheVariants.{BrokenLookup}
 use Rattle.lookups.specs.declared.lookup.Lookup.{Lookup}
 use Rattle.lookups.specs.Tables.{Fields, lookup}
 use Rattle.lookups.specs.Faults.{placed}
-use Rattle.lookups.specs.Views.{LookupStands}
 
 -- a lookup: its type, its flag and its subtables
 pub record LookupValue : Type 0 where
@@ -50,5 +49,5 @@ Accepts x (Err f) = x ≡ Err f
 
 -- the answer is a view of the lookup at a vertex, or why it cannot be read
 abbrev pub ReadsAll : List Node → ℕ → Result Lookup LookupFault → Type 0
-ReadsAll nodes v (Ok l) = (is_ok (lookup_of nodes v) ≡ true) × (node_of l.vertex ≡ node_at nodes v) × LookupStands l
+ReadsAll nodes v (Ok l) = (is_ok (lookup_of nodes v) ≡ true) × (node_of l.vertex ≡ node_at nodes v)
 ReadsAll nodes v (Err f) = lookup_of nodes v ≡ Err f

@@ -1,14 +1,14 @@
 // A fault on its way up: it gets its subtable from the lookup.
 ghost use Rattle.std.specs.Prelude.{◌≡◌};
 ghost use Rattle.lookups.specs.declared.fault.LookupFault.TheVariants.{BrokenLookup};
-ghost use Rattle.lookups.specs.Faults.{placed};
+ghost use Rattle.lookups.specs.Faults.{placed, refusal_of};
 
 use fields::Fault;
 use markbase::PartFault;
-use refusal::Part;
+use refusal::{Part, Refusal};
 
 /// Why a lookup cannot be read.
-#[derive(Clone, Copy, Debug)]
+#[derive(Clone, Copy, Debug, PartialEq, Eq)]
 pub enum LookupFault {
     /// A field of its own is broken.
     BrokenLookup {
@@ -30,16 +30,32 @@ impl From<Fault> for LookupFault {
     }
 }
 
+impl From<LookupFault> for Refusal {
+    ghost from_gives = { λ f r. r ≡ refusal_of f };
+
+    fn from(fault: LookupFault) -> Refusal {
+        match fault {
+            LookupFault::BrokenLookup { place } => Refusal::BrokenLookup { place },
+            LookupFault::BrokenPart {
+                subtable,
+                part,
+                place,
+            } => Refusal::BrokenPart {
+                subtable: u32::from(subtable),
+                part,
+                place,
+            },
+        }
+    }
+}
+
 /// What was read of the subtable at this place.
 pub fn in_subtable<T>(subtable: u16, read: Result<T, PartFault>) -> Result<T, LookupFault>
     ensures { result ≡ placed subtable read }
 {
-    match read {
-        Ok(value) => Ok(value),
-        Err(fault) => Err(LookupFault::BrokenPart {
-            subtable,
-            part: fault.part,
-            place: fault.place,
-        }),
-    }
+    read.map_err(|fault| LookupFault::BrokenPart {
+        subtable,
+        part: fault.part,
+        place: fault.place,
+    })
 }

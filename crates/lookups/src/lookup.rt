@@ -1,10 +1,9 @@
 // A lookup's own fields.
-ghost use Rattle.std.specs.Prelude.{◌≡◌, ◌<◌, slice_index};
+ghost use Rattle.std.specs.Prelude.{◌≡◌, Ok, ◌<◌, slice_index};
 ghost use Rattle.serialize.specs.Objects.{Ascends};
 ghost use Rattle.fields.specs.Cursors.{Reads};
 ghost use Rattle.markbase.specs.Nodes.{node_of, read};
 ghost use Rattle.lookups.specs.Tables.{lookup, head_of};
-ghost use Rattle.lookups.specs.Views.{offsets_of, LookupStands, ReadsLookup};
 
 use fields::{Cursor, Fault};
 use markbase::{DataBytes, LookupType};
@@ -14,7 +13,7 @@ use serialize::link::LinkWidth;
 const USE_MARK_FILTERING_SET: u16 = 0x0010;
 
 /// A lookup's type and flag, and the number of its subtables.
-#[derive(Clone, Copy, Debug)]
+#[derive(Clone, Copy, Debug, PartialEq, Eq)]
 pub struct LookupHead {
     pub kind: LookupType,
     pub flag: u16,
@@ -26,6 +25,9 @@ pub struct LookupHead {
 pub struct Lookup<'a> {
     vertex: DataBytes<'a>,
     head: LookupHead,
+    // No field is broken: the vertex reads as a lookup with this head.
+    pub ghost ascending: { Ascends (node_of vertex).links },
+    pub ghost stands: { head_of (read lookup (node_of vertex)) ≡ Ok head },
 }
 
 /// Goes through the fields: type 4 or 9, flag, count, as many offsets, and one word more if the flag says so.
@@ -34,12 +36,10 @@ fn check_fields(vertex: DataBytes) -> Result<LookupHead, Fault>
 {
     let mut cursor = Cursor::new(vertex.bytes, vertex.links);
     let word = cursor.word()?;
-    let Some(kind) = LookupType::new_checked(word.value) else {
-        return Err(Fault { place: word.place });
-    };
+    let kind = LookupType::try_from(word.value).map_err(|_| Fault { place: word.place })?;
     let flag = cursor.word()?;
     let count = cursor.word()?;
-    for i in 0..count.value {
+    for _ in 0..count.value {
         let _ = cursor.offset(LinkWidth::Two)?;
     }
     if flag.value & USE_MARK_FILTERING_SET != 0 {
@@ -54,6 +54,8 @@ fn check_fields(vertex: DataBytes) -> Result<LookupHead, Fault>
 }
 
 impl<'a> Lookup<'a> {
+    ghost use Rattle.lookups.specs.Views.{offsets_of, ReadsLookup};
+
     /// Takes a vertex for a lookup, or says where it is broken.
     pub fn read(vertex: DataBytes<'a>) -> Result<Lookup<'a>, Fault>
         requires { Ascends (node_of vertex).links }
@@ -71,14 +73,10 @@ impl<'a> Lookup<'a> {
 
     /// The vertex of a subtable or, in type 9, of its extension.
     pub fn subtable(&self, i: u16) -> u32
-        requires stands { LookupStands self.now }
-        requires within { i < self.now.head.count }
+        requires { i < self.now.head.count }
         ensures { result ≡ slice_index (offsets_of self.now) i }
     {
         let mut cursor = Cursor::seek(self.vertex.bytes, self.vertex.links, 6 + 2 * i as usize);
-        match cursor.offset(LinkWidth::Two) {
-            Ok(child) => child.value,
-            Err(_) => unreachable(),
-        }
+        cursor.offset(LinkWidth::Two).unwrap().value
     }
 }

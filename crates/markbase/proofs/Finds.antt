@@ -2,24 +2,25 @@
 use Rattle.std.proofs.Common.{◌≡◌, ℕ, suc, ◌+◌, ◌-◌, ◌<◌, ◌≤◌, Bool, true, false, cond, eqb, List, [], ◌∷◌, length, get_or, is_ok, Some, None, Ok, Err, Option, Result, sym, refl, ap, ◌∙◌, ⊎_elim, arith}
 use Rattle.std.proofs.lemmas.Bool.{eqb-true, cases_Bool, true≢false}
 use Rattle.serialize.specs.declared.link.Link.{Link}
-use Rattle.serialize.specs.Objects.{Node, node_at, Ascends}
+use Rattle.serialize.specs.Objects.{Node, node_at}
 use Rattle.layout.specs.Format.{read_coverage}
 use Rattle.layout.specs.Lookup as layout
 use Rattle.layout.specs.Lookup.{covered, index_in}
 use Rattle.fields.specs.Arrays.{mark_array_reader, base_array_reader}
 use Rattle.refusal.specs.declared.Part.{Part}
 use Rattle.markbase.specs.declared.table.MarkBasePosFormat1.{MarkBasePosFormat1}
+use Rattle.markbase.specs.declared.data.DataBytes.{DataBytes}
 use Rattle.markbase.specs.declared.fault.PartFault.{PartFault}
 use Rattle.markbase.specs.declared.mark_array.MarkArray.{MarkArray}
 use Rattle.markbase.specs.declared.base_array.BaseArray.{BaseArray}
 use Rattle.markbase.specs.Nodes.{node_of, read}
-use Rattle.markbase.specs.Views.{list_of, marks_of, rows_of, MarksStand, BasesStand}
+use Rattle.markbase.specs.Views.{list_of, marks_of, rows_of}
 use Rattle.markbase.specs.Tables.{coverage, words_only}
 use Rattle.markbase.specs.Faults.{in_part, ◌⟩◌}
 use Rattle.markbase.specs.Values.{Mark, Base, Contents}
 use Rattle.markbase.specs.Parts.{paired, mark_of, base_of, contents_of}
 use Rattle.markbase.specs.Hits.{find, mark_in, base_in, given, contents_at, record_of, anchor_of}
-use Rattle.markbase.proofs.Records.{marks_count, rows_count, marks_classed}
+use Rattle.markbase.proofs.Records.{marks_count, rows_count, marks_classed, marks_read, rows_read}
 use Rattle.markbase.proofs.Contents.{Whole, contents_are}
 
 module _ {A X : Type 0} (f : ℕ → A → X) (key : X → ℕ) (keys : (g : ℕ) (a : A) → key (f g a) ≡ g) where
@@ -75,7 +76,7 @@ parts_of nodes t e =
     let b = part_ok _ _ _ a.2 in
     let c = part_ok _ _ _ b.2 in
     let d = part_ok _ _ _ c.2 in
-    record { mark_glyphs = a.0; base_glyphs = b.0; records = c.0; rows = d.0; whole = record { marks = a.1; bases = b.1; mark_array_reader' = c.1; base_array_reader' = d.1 } }
+    record { mark_glyphs = a.0; base_glyphs = b.0; records = c.0; rows = d.0; whole = record { marks = a.1; bases = b.1; mark_records = c.1; base_rows = d.1 } }
 
 -- a coverage that was read has no link
 unlinked : (ls : List Link) (x : Result (List ℕ) ℕ) (gs : List ℕ) → words_only ls x ≡ Ok gs → x ≡ Ok gs
@@ -100,50 +101,54 @@ module _ (nodes : List Node) (t : MarkBasePosFormat1) (p : Parts nodes t) where
   pub base_missed : (g class : ℕ) → index_in g 0 p.base_glyphs ≡ None → anchor_of class (base_in (contents_at nodes t) g) ≡ None
   base_missed g class e = ap (λ (c : Contents). anchor_of class (base_in c g)) contents_at_lem ∙ ap (anchor_of class) (missed base_of (λ (b : Base). b.glyph) (λ g a. refl) p.base_glyphs p.rows g 0 e)
 
-  -- a view of the mark array
-  module _ (m : MarkArray) (here' : node_of m.vertex ≡ node_at nodes t.mark_array) (many : m.count ≡ length p.mark_glyphs) (classes : m.class_count ≡ t.class_count) (up : Ascends (node_of m.vertex).links) where
-    marks_read : read (mark_array_reader m.count m.class_count) (node_of m.vertex) ≡ Ok p.records
-    marks_read = (λ i. read (mark_array_reader (many i) (classes i)) (here' i)) ∙ p.whole.mark_array_reader'
+  -- the arrays are read where a view of them is made
+  pub marks_stand : (v : DataBytes) (n : ℕ) → node_of v ≡ node_at nodes t.mark_array → n ≡ length p.mark_glyphs → is_ok (read (mark_array_reader n t.class_count) (node_of v)) ≡ true
+  marks_stand v n here' many = ap is_ok ((λ i. read (mark_array_reader (many i) t.class_count) (here' i)) ∙ p.whole.mark_records)
 
+  pub bases_stand : (v : DataBytes) (n : ℕ) → node_of v ≡ node_at nodes t.base_array → n ≡ length p.base_glyphs → is_ok (read (base_array_reader n t.class_count) (node_of v)) ≡ true
+  bases_stand v n here' many = ap is_ok ((λ i. read (base_array_reader (many i) t.class_count) (here' i)) ∙ p.whole.base_rows)
+
+  -- a view of the mark array
+  module _ (m : MarkArray) (here' : node_of m.vertex ≡ node_at nodes t.mark_array) (many : m.count ≡ length p.mark_glyphs) (classes : m.class_count ≡ t.class_count) where
     marks_are : marks_of m ≡ p.records
     unfolding marks_of
-    marks_are = ap list_of marks_read
-
-    pub marks_stand : MarksStand m
-    marks_stand = record { ascending = up; marks = marks_read ∙ ap Ok (sym marks_are) }
+    marks_are = ap list_of ((λ i. read (mark_array_reader (many i) (classes i)) (here' i)) ∙ p.whole.mark_records)
 
     marks_many : length p.records ≡ length p.mark_glyphs
-    marks_many = marks_count m.vertex.bytes.now m.vertex.links.now up m.count m.class_count p.records marks_read ∙ many
+    marks_many = sym (ap length marks_are) ∙ marks_count m.vertex.bytes.now m.vertex.links.now m.ascending m.count m.class_count (marks_of m) (marks_read m) ∙ many
 
-    pub mark_found : (g k : ℕ) → index_in g 0 p.mark_glyphs ≡ Some k → (k < length (marks_of m)) × (record_of (mark_in (contents_at nodes t) g) ≡ Some (get_or (marks_of m) k (0, None))) × ((get_or (marks_of m) k (0, None)).0 < t.class_count)
-    mark_found g k e =
-        let r = found mark_of (λ (x : Mark). x.glyph) (λ g a. refl) p.mark_glyphs p.records g 0 k (0, None) marks_many e in
-        let within : k < length (marks_of m) = omega (arith, r.1, marks_many, ap length marks_are) in
-        let zero' : k - 0 ≡ k = omega arith in (
-          within,
-          ap (λ (c : Contents). record_of (mark_in c g)) contents_at_lem ∙ ap record_of r.2 ∙ ap (λ i. Some (get_or p.records i (0, None))) zero' ∙ ap (λ ms. Some (get_or ms k (0, None))) (sym marks_are),
-          omega (arith, classes, marks_classed m.vertex.bytes.now m.vertex.links.now up m.count m.class_count (marks_of m) marks_stand.marks k within),
-        )
+    module _ (g k : ℕ) (e : index_in g 0 p.mark_glyphs ≡ Some k) where
+      mark_there : (0 ≤ k) × (k < 0 + length p.mark_glyphs) × (find (λ (x : Mark). x.glyph) (paired mark_of p.mark_glyphs p.records) g ≡ Some (mark_of g (get_or p.records (k - 0) (0, None))))
+      mark_there = found mark_of (λ (x : Mark). x.glyph) (λ g a. refl) p.mark_glyphs p.records g 0 k (0, None) marks_many e
+
+      pub mark_known : k < length (marks_of m)
+      mark_known = omega (arith, mark_there.1, marks_many, ap length marks_are)
+
+      pub mark_found : record_of (mark_in (contents_at nodes t) g) ≡ Some (get_or (marks_of m) k (0, None))
+      mark_found =
+          let zero' : k - 0 ≡ k = omega arith in
+          ap (λ (c : Contents). record_of (mark_in c g)) contents_at_lem ∙ ap record_of mark_there.2 ∙ ap (λ i. Some (get_or p.records i (0, None))) zero' ∙ ap (λ ms. Some (get_or ms k (0, None))) (sym marks_are)
+
+      pub mark_classed : (get_or (marks_of m) k (0, None)).0 < t.class_count
+      mark_classed = omega (arith, classes, marks_classed m.vertex.bytes.now m.vertex.links.now m.ascending m.count m.class_count (marks_of m) (marks_read m) k mark_known)
 
   -- a view of the base array
-  module _ (m : BaseArray) (here' : node_of m.vertex ≡ node_at nodes t.base_array) (many : m.count ≡ length p.base_glyphs) (classes : m.class_count ≡ t.class_count) (up : Ascends (node_of m.vertex).links) where
-    rows_read : read (base_array_reader m.count m.class_count) (node_of m.vertex) ≡ Ok p.rows
-    rows_read = (λ i. read (base_array_reader (many i) (classes i)) (here' i)) ∙ p.whole.base_array_reader'
-
+  module _ (m : BaseArray) (here' : node_of m.vertex ≡ node_at nodes t.base_array) (many : m.count ≡ length p.base_glyphs) (classes : m.class_count ≡ t.class_count) where
     rows_are : rows_of m ≡ p.rows
     unfolding rows_of
-    rows_are = ap list_of rows_read
-
-    pub bases_stand : BasesStand m
-    bases_stand = record { ascending = up; rows = rows_read ∙ ap Ok (sym rows_are) }
+    rows_are = ap list_of ((λ i. read (base_array_reader (many i) (classes i)) (here' i)) ∙ p.whole.base_rows)
 
     rows_many : length p.rows ≡ length p.base_glyphs
-    rows_many = rows_count m.vertex.bytes.now m.vertex.links.now up m.count m.class_count p.rows rows_read ∙ many
+    rows_many = sym (ap length rows_are) ∙ rows_count m.vertex.bytes.now m.vertex.links.now m.ascending m.count m.class_count (rows_of m) (rows_read m) ∙ many
 
-    pub base_found : (g k class : ℕ) → index_in g 0 p.base_glyphs ≡ Some k → (k < length (rows_of m)) × (anchor_of class (base_in (contents_at nodes t) g) ≡ Some (get_or (get_or (rows_of m) k []) class None))
-    base_found g k class e =
-        let r = found base_of (λ (x : Base). x.glyph) (λ g a. refl) p.base_glyphs p.rows g 0 k [] rows_many e in
-        let zero' : k - 0 ≡ k = omega arith in (
-          omega (arith, r.1, rows_many, ap length rows_are),
-          ap (λ (c : Contents). anchor_of class (base_in c g)) contents_at_lem ∙ ap (anchor_of class) r.2 ∙ ap (λ i. Some (get_or (get_or p.rows i []) class None)) zero' ∙ ap (λ rs. Some (get_or (get_or rs k []) class None)) (sym rows_are),
-        )
+    module _ (g k : ℕ) (e : index_in g 0 p.base_glyphs ≡ Some k) where
+      base_there : (0 ≤ k) × (k < 0 + length p.base_glyphs) × (find (λ (x : Base). x.glyph) (paired base_of p.base_glyphs p.rows) g ≡ Some (base_of g (get_or p.rows (k - 0) [])))
+      base_there = found base_of (λ (x : Base). x.glyph) (λ g a. refl) p.base_glyphs p.rows g 0 k [] rows_many e
+
+      pub base_known : k < length (rows_of m)
+      base_known = omega (arith, base_there.1, rows_many, ap length rows_are)
+
+      pub base_found : (class : ℕ) → anchor_of class (base_in (contents_at nodes t) g) ≡ Some (get_or (get_or (rows_of m) k []) class None)
+      base_found class =
+          let zero' : k - 0 ≡ k = omega arith in
+          ap (λ (c : Contents). anchor_of class (base_in c g)) contents_at_lem ∙ ap (anchor_of class) base_there.2 ∙ ap (λ i. Some (get_or (get_or p.rows i []) class None)) zero' ∙ ap (λ rs. Some (get_or (get_or rs k []) class None)) (sym rows_are)

@@ -1,12 +1,15 @@
 -- The records of the arrays, by their numbers.
-use Rattle.std.proofs.Common.{◌≡◌, ℕ, ◌+◌, ◌*◌, ◌<◌, ◌≤◌, cond, eqb, ltb, List, [], ◌∷◌, length, get_or, None, Ok, Err, Option, Result, sym, refl, ap, ◌∙◌, mul_comm, arith}
+use Rattle.std.proofs.Common.{◌≡◌, ℕ, ◌+◌, ◌*◌, ◌<◌, ◌≤◌, cond, eqb, ltb, true, List, [], ◌∷◌, length, get_or, is_ok, None, Ok, Err, Option, Result, sym, refl, ap, ◌∙◌, mul_comm, arith}
 use Rattle.std.proofs.lemmas.List.{length-drop}
-use Rattle.std.proofs.lemmas.Bool.{le-leb, ltb-true}
+use Rattle.std.proofs.lemmas.Bool.{le-leb, ltb-true, true≢false}
 use Rattle.serialize.specs.declared.link.Link.{Link}
 use Rattle.serialize.specs.Objects.{Ascends}
 use Rattle.fields.specs.Fields.{Rest, nullable, allowed, give, times, whole, start, ◌⟫◌, from, seek}
-use Rattle.markbase.specs.Nodes.{fault_of}
-use Rattle.markbase.specs.Views.{list_of}
+use Rattle.markbase.specs.declared.mark_array.MarkArray.{MarkArray}
+use Rattle.markbase.specs.declared.base_array.BaseArray.{BaseArray}
+use Rattle.markbase.specs.Nodes.{node_of, read}
+use Rattle.markbase.specs.Views.{list_of, marks_of, rows_of}
+use Rattle.markbase.proofs.Repeats.{fault_of}
 use Rattle.fields.specs.Arrays.{mark, mark_array_reader, base_array_reader}
 use Rattle.fields.proofs.Seeks.{Steady, nullable_long, ended_ok, then_ok, ok_pair, word_ok, allowed_ok, allowed_steady, nullable_steady, then_steady, give_steady, times_steady, times_at}
 
@@ -85,3 +88,30 @@ module _ (bs : List ℕ) (ls : List Link) (up : Ascends ls) where
     anchor_within i j h l =
         let a = anchor_at i j h l in
         omega (arith, nullable_long (seek (2 + 2 * k * i + 2 * j) bs ls) (get_or (get_or rows i []) j None) a.0 a.1, length-drop (2 + 2 * k * i + 2 * j) bs)
+
+-- the arrays that views stand for
+list_known : {A : Type 0} (x : Result (List A) ℕ) → is_ok x ≡ true → x ≡ Ok (list_of x)
+list_known (Ok as') e = refl
+list_known (Err p) e = absurd (true≢false (sym e))
+
+pub marks_read : (m : MarkArray) → read (mark_array_reader m.count m.class_count) (node_of m.vertex) ≡ Ok (marks_of m)
+unfolding marks_of
+marks_read m = list_known _ m.stands
+
+pub rows_read : (m : BaseArray) → read (base_array_reader m.count m.class_count) (node_of m.vertex) ≡ Ok (rows_of m)
+unfolding rows_of
+rows_read m = list_known _ m.stands
+
+module _ (m : MarkArray) (i : ℕ) (h : i < length (marks_of m)) where
+  pub mark_within : 2 + 4 * i ≤ length m.vertex.bytes.now
+  mark_within = marks_within m.vertex.bytes.now m.vertex.links.now m.ascending m.count m.class_count (marks_of m) (marks_read m) i h
+
+  pub mark_at : (u : Rest) × (mark m.class_count (seek (2 + 4 * i) m.vertex.bytes.now m.vertex.links.now) ≡ Ok (get_or (marks_of m) i (0, None), u))
+  mark_at = marks_at m.vertex.bytes.now m.vertex.links.now m.ascending m.count m.class_count (marks_of m) (marks_read m) i h
+
+module _ (m : BaseArray) (i j : ℕ) (h : i < length (rows_of m)) (l : j < m.class_count) where
+  pub null_within : 2 + 2 * m.class_count * i + 2 * j ≤ length m.vertex.bytes.now
+  null_within = anchor_within m.vertex.bytes.now m.vertex.links.now m.ascending m.count m.class_count (rows_of m) (rows_read m) i j h l
+
+  pub null_at : (u : Rest) × (nullable (seek (2 + 2 * m.class_count * i + 2 * j) m.vertex.bytes.now m.vertex.links.now) ≡ Ok (get_or (get_or (rows_of m) i []) j None, u))
+  null_at = anchor_at m.vertex.bytes.now m.vertex.links.now m.ascending m.count m.class_count (rows_of m) (rows_read m) i j h l

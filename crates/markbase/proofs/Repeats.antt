@@ -7,6 +7,11 @@ abbrev pub onward : {A C : Type 0} → (ℕ → C) → (Rest → C) → Result (
 onward E V (Ok r) = V r.1
 onward E V (Err p) = E p
 
+-- the place of the first broken field, if there is one
+abbrev pub fault_of : {A : Type 0} → Result A ℕ → Option ℕ
+fault_of (Ok a) = None
+fault_of (Err p) = Some p
+
 abbrev pub at_end : Rest → Option ℕ
 at_end s = cond (eqb (length s.bytes) 0) None (Some s.place)
 

@@ -8,7 +8,7 @@ use fields::{Cursor, Fault};
 use serialize::link::LinkWidth;
 
 /// An extension: the vertex of the subtable that it stands for.
-#[derive(Clone, Copy, Debug)]
+#[derive(Clone, Copy, Debug, PartialEq, Eq)]
 pub struct ExtensionSubtable {
     pub subtable: u32,
 }

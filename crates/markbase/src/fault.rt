@@ -6,7 +6,7 @@ use fields::Fault;
 use refusal::Part;
 
 /// A part of a subtable, and the place of its first broken field.
-#[derive(Clone, Copy, Debug)]
+#[derive(Clone, Copy, Debug, PartialEq, Eq)]
 pub struct PartFault {
     pub part: Part,
     pub place: usize,
@@ -16,11 +16,8 @@ pub struct PartFault {
 pub fn in_part<T>(part: Part, read: Result<T, Fault>) -> Result<T, PartFault>
     ensures { result ≡ placed part read }
 {
-    match read {
-        Ok(value) => Ok(value),
-        Err(fault) => Err(PartFault {
-            part,
-            place: fault.place,
-        }),
-    }
+    read.map_err(|fault| PartFault {
+        part,
+        place: fault.place,
+    })
 }

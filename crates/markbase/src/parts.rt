@@ -16,7 +16,7 @@ use graph::tables::Graph;
 use refusal::Part;
 
 /// Where the parts of a subtable stand, and how many marks and bases it has.
-#[derive(Clone, Copy, Debug)]
+#[derive(Clone, Copy, Debug, PartialEq, Eq)]
 pub struct TableInfo {
     pub extension: Option<u32>,
     pub vertex: u32,

@@ -8,7 +8,7 @@ use fields::{Cursor, Fault};
 use serialize::link::LinkWidth;
 
 /// A subtable's class count, and the vertices that its offsets lead to.
-#[derive(Clone, Copy, Debug)]
+#[derive(Clone, Copy, Debug, PartialEq, Eq)]
 pub struct MarkBasePosFormat1 {
     pub mark_coverage: u32,
     pub base_coverage: u32,

@@ -1,7 +1,7 @@
 // `marksplit`: loads `objects.bin` and answers the lines of standard input, one line for each.
 #![tactic(auto)]
 
-use anyhow::anyhow;
+use anyhow::Context;
 use lines::refused_line;
 use session::{LONGEST_FILE, answer, load_file, new_workspace};
 use std::io::{BufRead, BufReader, Read, Write};
@@ -27,12 +27,7 @@ fn answer_lines(rt: &HostRuntime, workspace: &mut Workspace) -> anyhow::Result<(
 }
 
 fn run(rt: &HostRuntime) -> anyhow::Result<()> {
-    let file = match read_file(rt) {
-        Ok(file) => file,
-        Err(error) => {
-            return Err(anyhow!(format!(in rt.alloc(); "cannot read objects.bin: {error}")?));
-        }
-    };
+    let file = read_file(rt).context("cannot read objects.bin")?;
     let mut workspace = new_workspace(rt.alloc())?;
     match load_file(&mut workspace, file.as_slice()) {
         Ok(_) => answer_lines(rt, &mut workspace),
@@ -48,7 +43,7 @@ fn main(rt: HostRuntime) -> ExitCode {
     match run(&rt) {
         Ok(()) => ExitCode::SUCCESS,
         Err(error) => {
-            let _ = eprintln!(rt; "marksplit: {error}");
+            let _ = eprintln!(rt; "marksplit: {error:#}");
             ExitCode::FAILURE
         }
     }

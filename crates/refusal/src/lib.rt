@@ -9,21 +9,21 @@ use std::fmt;
 // What is too small for a file or for a split.
 #[derive(Clone, Copy, PartialEq, Eq, Debug)]
 pub enum Shortage {
-    Vertices,
-    Links,
-    Bytes,
-    Lists,
+    Vertices = 0,
+    Links = 1,
+    Bytes = 2,
+    Lists = 3,
 }
 
 // The parts of a subtable, in the order in which they are read.
 #[derive(Clone, Copy, PartialEq, Eq, Debug)]
 pub enum Part {
-    Extension,
-    Subtable,
-    MarkCoverage,
-    BaseCoverage,
-    MarkArray,
-    BaseArray,
+    Extension = 0,
+    Subtable = 1,
+    MarkCoverage = 2,
+    BaseCoverage = 3,
+    MarkArray = 4,
+    BaseArray = 5,
 }
 
 // The causes, in the order of their numbers.
@@ -83,12 +83,7 @@ impl Shortage {
     pub fn number(self) -> u8
         ensures { result ≡ shortage_number self }
     {
-        match self {
-            Shortage::Vertices => 0,
-            Shortage::Links => 1,
-            Shortage::Bytes => 2,
-            Shortage::Lists => 3,
-        }
+        self as u8 // in the order in which they are tried
     }
 }
 
@@ -96,19 +91,13 @@ impl Part {
     pub fn number(self) -> u8
         ensures { result ≡ part_number self }
     {
-        match self {
-            Part::Extension => 0,
-            Part::Subtable => 1,
-            Part::MarkCoverage => 2,
-            Part::BaseCoverage => 3,
-            Part::MarkArray => 4,
-            Part::BaseArray => 5,
-        }
+        self as u8 // in the order in which they are read
     }
 }
 
 impl Refusal {
     // The cause's number, without the values that come with it.
+    // A match, since `as` gives no number to an enum whose variants hold values.
     pub fn number(self) -> u8
         ensures { result ≡ number_of self }
     {

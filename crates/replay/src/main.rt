@@ -3,34 +3,44 @@
 // The file is a row of records: a tag, the length of the body as four bytes, and the body. `N` begins a case and has its name, `F` has its objects, `L` is one line of its input.
 #![tactic(auto)]
 
+ghost use Rattle.std.specs.Prelude.{length};
+ghost use Rattle.std.specs.Iterator.{at_most};
+
 use lines::refused_line;
 use session::{answer, load_file, new_workspace};
 use std::io::{Read, Write};
 use std::{fs, io};
 use workspace::state::Workspace;
 
-// A record, and what comes after it.
-#[derive(Clone, Copy)]
-struct Record<'a> {
-    tag: u8,
-    body: &'a [u8],
-    rest: &'a [u8],
+// One record, by its tag; every tag but those of names and objects is that of a line.
+enum Record<'a> {
+    Name(&'a [u8]),
+    Objects(&'a [u8]),
+    Line(&'a [u8]),
 }
 
-fn next_record<'a>(records: &'a [u8]) -> Option<Record<'a>> {
-    let [tag, a, b, c, d, rest @ ..] = records else {
-        return None;
-    };
-    let len = u32::from_be_bytes([*a, *b, *c, *d]) as usize;
-    if rest.len() < len {
-        return None;
+// The records that are left. They end where no whole record is left.
+#[derive(Drop)]
+struct Records<'a>(&'a [u8]);
+
+impl<'a> Iterator for Records<'a> {
+    type Item = Record<'a>;
+
+    ghost remaining = { λ s. at_most (length s.0.now) };
+
+    fn next(&mut self) -> Option<Record<'a>> {
+        let [tag, a, b, c, d, rest @ ..] = self.0 else {
+            return None;
+        };
+        let len = u32::from_be_bytes([*a, *b, *c, *d]) as usize;
+        let (body, rest) = rest.split_at_checked(len)?;
+        self.0 = rest;
+        Some(match *tag {
+            b'N' => Record::Name(body),
+            b'F' => Record::Objects(body),
+            _ => Record::Line(body),
+        })
     }
-    let (body, rest) = rest.split_at(len);
-    Some(Record {
-        tag: *tag,
-        body,
-        rest,
-    })
 }
 
 fn read_cases(rt: &HostRuntime) -> io::Result<Vec<u8>> {
@@ -40,6 +50,7 @@ fn read_cases(rt: &HostRuntime) -> io::Result<Vec<u8>> {
 }
 
 // A workspace that holds the objects of a file; none where the file is refused, which is printed.
+// `marksplit` begins alike, but ends at a refusal; one function for both would answer a result within a result, which is no plainer.
 fn begin(rt: &HostRuntime, file: &[u8]) -> anyhow::Result<Option<Workspace>> {
     let mut workspace = new_workspace(rt.alloc())?;
     match load_file(&mut workspace, file) {
@@ -74,18 +85,13 @@ fn print_answer(
 
 fn main(rt: HostRuntime) -> anyhow::Result<()> {
     let cases = read_cases(&rt)?;
-    let mut records = cases.as_slice();
     let mut workspace = None;
-    for _ in 0..cases.len() {
-        let Some(record) = next_record(records) else {
-            break;
-        };
-        match record.tag {
-            b'N' => print_name(&rt, record.body)?,
-            b'F' => workspace = begin(&rt, record.body)?,
-            _ => print_answer(&rt, &mut workspace, record.body)?,
+    for record in Records(cases.as_slice()) {
+        match record {
+            Record::Name(name) => print_name(&rt, name)?,
+            Record::Objects(file) => workspace = begin(&rt, file)?,
+            Record::Line(line) => print_answer(&rt, &mut workspace, line)?,
         }
-        records = record.rest;
     }
     Ok(())
 }

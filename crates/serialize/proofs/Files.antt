@@ -49,3 +49,7 @@ whole file t e =
 module _ (file : List ℕ) (t : Trailer) (w : Whole file t) where
   pub start_end : (v : ℕ) → v < t.vertices → start_at file t v + length_at file t v ≤ t.lengths
   start_end v h = omega (arith, start_more file t v h, start_le file t (v + 1), w.adds_up)
+
+-- a vertex's bytes lie before the lengths
+pub lies_in : (file : List ℕ) (t : Trailer) → trailer_of file ≡ Some t → (v : ℕ) → v < t.vertices → start_at file t v + length_at file t v + 4 * t.vertices ≤ length file
+lies_in file t e v h = let w = whole file t e in omega (arith, start_end file t w v h, w.lengths_end, w.records_end_lem)

@@ -1,6 +1,6 @@
 // Links.
 ghost use Rattle.std.specs.Prelude.{◌≡◌};
-ghost use Rattle.serialize.specs.Width.{width_of, width_from};
+ghost use Rattle.serialize.specs.Width.{width_of, Names};
 
 // How many bytes the field of a link has.
 #[derive(Clone, Copy, PartialEq, Eq, Debug)]
@@ -10,27 +10,31 @@ pub enum LinkWidth {
     Four = 4,
 }
 
-impl LinkWidth {
-    pub fn new_checked(val: usize) -> Option<LinkWidth>
-        ensures { result ≡ width_from val }
-    {
+// A number of bytes that no field has.
+#[derive(Clone, Copy, PartialEq, Eq, Debug)]
+pub struct UnknownWidth(pub usize);
+
+impl TryFrom<usize> for LinkWidth {
+    type Error = UnknownWidth;
+
+    ghost try_from_gives = { Names };
+
+    fn try_from(val: usize) -> Result<LinkWidth, UnknownWidth> {
         match val {
-            2 => Some(LinkWidth::Two),
-            3 => Some(LinkWidth::Three),
-            4 => Some(LinkWidth::Four),
-            _ => None,
+            2 => Ok(LinkWidth::Two),
+            3 => Ok(LinkWidth::Three),
+            4 => Ok(LinkWidth::Four),
+            _ => Err(UnknownWidth(val)),
         }
     }
+}
 
+impl LinkWidth {
     // The number of bytes.
     pub fn len(self) -> usize
         ensures { result ≡ width_of self }
     {
-        match self {
-            LinkWidth::Two => 2,
-            LinkWidth::Three => 3,
-            LinkWidth::Four => 4,
-        }
+        self as usize
     }
 }
 

@@ -1,8 +1,8 @@
 // Object files: the vertices' bytes in number order, each vertex's length, the link records, and a trailer of 20 bytes.
-ghost use Rattle.std.specs.Prelude.{◌≡◌, ℕ, ◌+◌, ◌-◌, ◌*◌, ◌<◌, ◌≤◌, length, Some};
+ghost use Rattle.std.specs.Prelude.{◌≡◌, ℕ, ◌+◌, ◌-◌, ◌*◌, ◌<◌, ◌≤◌, length, Some, None, IfSome, MatchResult, option_map};
 ghost use Rattle.serialize.specs.Objects.{zeros};
 ghost use Rattle.serialize.specs.ObjectFile.{u32_at, numbers_of, trailer_of, gapless, length_at, start_at, record_at, sound_alone, follows, every, first_broken, link_from};
-ghost use Rattle.serialize.specs.Scanning.{KeptBelow, ScannedTo, Checked};
+ghost use Rattle.serialize.specs.Scanning.{KeptBelow, StandsAt, ScannedTo, Checked};
 
 use crate::link::{Link, LinkWidth};
 
@@ -22,12 +22,34 @@ pub struct Trailer {
 }
 
 // A link as the file has it: the field of `width` bytes at `position` in `parent`, which points at `child`.
+// The width is a number here, since a file can hold any: `ObjectFile::check_links` tells whether a field can have so many bytes.
 #[derive(Clone, Copy)]
 pub struct LinkRecord {
     pub parent: u32,
     pub position: u32,
     pub child: u32,
     pub width: u32,
+}
+
+// An object file: its bytes, and the trailer that stands at their end.
+#[derive(Clone, Copy)]
+pub struct ObjectFile<'a> {
+    pub bytes: &'a [u8],
+    pub trailer: Trailer,
+    ghost read: { trailer_of bytes.now ≡ Some trailer },
+}
+
+// An object file whose link records keep every rule.
+#[derive(Clone, Copy)]
+pub struct SoundFile<'a> {
+    pub file: ObjectFile<'a>,
+    ghost sound: { first_broken file.bytes.now file.trailer ≡ None },
+}
+
+// The first link record that breaks a rule, alone or with those before it.
+#[derive(Clone, Copy, PartialEq, Eq, Debug)]
+pub struct BrokenLink {
+    pub record: u32,
 }
 
 // How far a scan of the records has come: to records of `vertex`, whose bytes begin at `start`.
@@ -49,12 +71,7 @@ fn u32_at(file: &[u8], at: usize) -> u32
 fn is_zero(bytes: &[u8]) -> bool
     ensures { result ≡ zeros bytes.now }
 {
-    for b in bytes {
-        if *b != 0 {
-            return false;
-        }
-    }
-    true
+    bytes.iter().all(|b| *b == 0)
 }
 
 impl LinkRecord {
@@ -76,33 +93,20 @@ impl LinkRecord {
         Link {
             position: self.position,
             child: self.child,
-            width: LinkWidth::new_checked(self.width as usize).unwrap_or(LinkWidth::Two),
+            width: LinkWidth::try_from(self.width as usize).unwrap_or(LinkWidth::Two),
         }
     }
 }
 
-impl Trailer {
-    // The trailer of a file whose parts have no gaps and whose lengths add up.
-    pub fn read(file: &[u8]) -> Option<Trailer>
-        ensures { result ≡ trailer_of file.now }
-    {
-        if file.len() < TRAILER_LEN {
-            return None;
-        }
-        let at = file.len() - TRAILER_LEN;
-        if u32_at(file, at) != TAG {
-            return None;
-        }
-        let trailer = Trailer::numbers(file, at);
-        if !trailer.is_gapless(file.len()) {
-            return None;
-        }
-        if trailer.start_of(file, 0, 0, trailer.vertices) != trailer.lengths as usize {
-            return None;
-        }
-        Some(trailer)
-    }
+impl Scan {
+    // Before the first vertex.
+    const START: Scan = Scan {
+        vertex: 0,
+        start: 0,
+    };
+}
 
+impl Trailer {
     fn numbers(file: &[u8], at: usize) -> Trailer
         requires { at + 20 ≡ length file.now }
         ensures { result ≡ numbers_of file.now }
@@ -130,22 +134,6 @@ impl Trailer {
         u32_at(file, self.lengths as usize + 4 * v as usize)
     }
 
-    // Where the bytes of `vertex` begin, told from where those of `from` do.
-    fn start_of(self, file: &[u8], from: u32, start: usize, vertex: u32) -> usize
-        requires within { self.lengths + 4 * self.vertices ≤ length file.now }
-        requires up { (from ≤ vertex) × (vertex ≤ self.vertices) }
-        requires begins { start ≡ start_at file.now self from }
-        requires small { start ≤ from * 4294967295 }
-        ensures value { result ≡ start_at file.now self vertex }
-        ensures bound { result ≤ vertex * 4294967295 }
-    {
-        let mut at = start;
-        for v in from..vertex {
-            at += self.length(file, v) as usize;
-        }
-        at
-    }
-
     // A link record.
     pub fn record(self, file: &[u8], i: u32) -> LinkRecord
         requires { self.records + 16 * i + 16 ≤ length file.now }
@@ -160,71 +148,130 @@ impl Trailer {
         }
     }
 
-    // Whether record `i` follows all records before it, which keep every rule: it is enough to ask the last of them.
-    fn is_in_order(self, file: &[u8], i: u32, link: LinkRecord) -> bool
-        requires within { self.records + 16 * i + 16 ≤ length file.now }
-        requires link { link ≡ record_at file.now self i }
-        requires before { KeptBelow file.now self i }
-        ensures { result ≡ every i (λ j. follows (record_at file.now self j) link) }
+    // The scan moved on to `vertex`.
+    fn advance(self, file: &[u8], scan: Scan, vertex: u32) -> Scan
+        requires within { self.lengths + 4 * self.vertices ≤ length file.now }
+        requires up { (scan.vertex ≤ vertex) × (vertex ≤ self.vertices) }
+        requires stands { StandsAt file.now self scan }
+        ensures vertex { result.vertex ≡ vertex }
+        ensures stands { StandsAt file.now self result }
     {
-        i == 0 || link.follows(self.record(file, i - 1))
+        let mut start = scan.start;
+        for v in scan.vertex..vertex {
+            start += self.length(file, v) as usize;
+        }
+        Scan { vertex, start }
+    }
+}
+
+impl<'a> ObjectFile<'a> {
+    // Bytes as an object file, whose parts have no gaps and whose lengths add up.
+    #[tactic(auto, using(crate::proofs::Files::start_all), unfolding(crate::specs::ObjectFile::trailer_of))]
+    pub fn read(bytes: &'a [u8]) -> Option<ObjectFile<'a>>
+        ensures trailer { option_map (λ file. file.trailer) result ≡ trailer_of bytes.entry.now }
+        ensures same { IfSome result (λ file. file.bytes ≡ bytes.entry) }
+    {
+        if bytes.len() < TRAILER_LEN {
+            return None;
+        }
+        let at = bytes.len() - TRAILER_LEN;
+        if u32_at(bytes, at) != TAG {
+            return None;
+        }
+        let trailer = Trailer::numbers(bytes, at);
+        if !trailer.is_gapless(bytes.len()) {
+            return None;
+        }
+        let end = trailer.advance(bytes, Scan::START, trailer.vertices);
+        if end.start != trailer.lengths as usize {
+            return None;
+        }
+        Some(ObjectFile { bytes, trailer })
+    }
+
+    // The length of a vertex.
+    pub fn length(self, v: u32) -> u32
+        requires { v < self.trailer.vertices }
+        ensures { result ≡ length_at self.entry.bytes.now self.entry.trailer v }
+    {
+        self.trailer.length(self.bytes, v)
+    }
+
+    // A link record, by its number: each call asks that it is in range, as an index of a slice is.
+    pub fn record(self, i: u32) -> LinkRecord
+        requires { i < self.trailer.links }
+        ensures { result ≡ record_at self.entry.bytes.now self.entry.trailer i }
+    {
+        self.trailer.record(self.bytes, i)
+    }
+
+    // Whether record `i` follows all records before it, which keep every rule: it is enough to ask the last of them.
+    fn is_in_order(self, i: u32, link: LinkRecord) -> bool
+        requires within { i < self.trailer.links }
+        requires link { link ≡ record_at self.bytes.now self.trailer i }
+        requires before { KeptBelow self.bytes.now self.trailer i }
+        ensures { result ≡ every i (λ j. follows (record_at self.entry.bytes.now self.entry.trailer j) link) }
+    {
+        i == 0 || link.follows(self.record(i - 1))
     }
 
     // Whether a record keeps the rules that it can break alone; the bytes of its parent begin at `start`.
-    fn is_sound(self, file: &[u8], link: LinkRecord, start: usize) -> bool
-        requires trailer { trailer_of file.now ≡ Some self }
-        requires parent { link.parent < self.vertices }
-        requires start { start ≡ start_at file.now self link.parent }
-        ensures { result ≡ sound_alone file.now self link }
+    #[tactic(auto, using(crate::proofs::Files::lies_in))]
+    fn is_sound(self, link: LinkRecord, start: usize) -> bool
+        requires parent { link.parent < self.trailer.vertices }
+        requires start { start ≡ start_at self.bytes.now self.trailer link.parent }
+        ensures { result ≡ sound_alone self.entry.bytes.now self.entry.trailer link }
     {
         let width = link.width as usize;
         let position = link.position as usize;
-        if link.child >= self.vertices || LinkWidth::new_checked(width).is_none() {
+        if link.child >= self.trailer.vertices || LinkWidth::try_from(width).is_err() {
             return false;
         }
-        if position + width > self.length(file, link.parent) as usize {
+        if position + width > self.length(link.parent) as usize {
             return false;
         }
-        is_zero(&file[start + position..start + position + width])
+        is_zero(&self.bytes[start + position..start + position + width])
     }
 
     // Whether record `i` keeps every rule; if so, where the scan then stands.
-    fn check(self, file: &[u8], i: u32, scan: Scan) -> Option<Scan>
-        requires trailer { trailer_of file.now ≡ Some self }
-        requires within { i < self.links }
-        requires before { KeptBelow file.now self i }
-        requires scan { ScannedTo file.now self i scan }
-        ensures { Checked file.now self i result }
+    fn check(self, i: u32, scan: Scan) -> Option<Scan>
+        requires within { i < self.trailer.links }
+        requires before { KeptBelow self.bytes.now self.trailer i }
+        requires scan { ScannedTo self.bytes.now self.trailer i scan }
+        ensures { Checked self.entry.bytes.now self.entry.trailer i result }
     {
-        let link = self.record(file, i);
-        if !self.is_in_order(file, i, link) || link.parent >= self.vertices {
+        let link = self.record(i);
+        if !self.is_in_order(i, link) || link.parent >= self.trailer.vertices {
             return None;
         }
-        let start = self.start_of(file, scan.vertex, scan.start, link.parent);
-        if !self.is_sound(file, link, start) {
+        let next = self.trailer.advance(self.bytes, scan, link.parent);
+        if !self.is_sound(link, next.start) {
             return None;
         }
-        Some(Scan {
-            vertex: link.parent,
-            start,
-        })
+        Some(next)
     }
 
     // The first record that breaks a rule, alone or with those before it.
-    pub fn first_broken(self, file: &[u8]) -> Option<u32>
-        requires { trailer_of file.now ≡ Some self }
-        ensures { result ≡ first_broken file.now self }
+    pub fn first_broken(self) -> Option<u32>
+        ensures { result ≡ first_broken self.entry.bytes.now self.entry.trailer }
     {
-        let mut scan = Scan {
-            vertex: 0,
-            start: 0,
-        };
-        for i in 0..self.links {
-            let Some(next) = self.check(file, i, scan) else {
+        let mut scan = Scan::START;
+        for i in 0..self.trailer.links {
+            let Some(next) = self.check(i, scan) else {
                 return Some(i);
             };
             scan = next;
         }
         None
+    }
+
+    // The file, as one whose records keep every rule.
+    pub fn check_links(self) -> Result<SoundFile<'a>, BrokenLink>
+        ensures { MatchResult result (λ sound. sound.file ≡ self.entry) (λ broken. first_broken self.entry.bytes.now self.entry.trailer ≡ Some broken.record) }
+    {
+        match self.first_broken() {
+            Some(record) => Err(BrokenLink { record }),
+            None => Ok(SoundFile { file: self }),
+        }
     }
 }

@@ -1,13 +1,14 @@
 // The sizes of what roots reach, and the marks afterwards.
-use crate::files::graph_of;
+use crate::files::{graph_of, record};
 use graph::tables::Graph;
+use serialize::object_file::LinkRecord;
 use std::alloc::Global;
 use std::process::Abort;
 use std::test::Fail;
 use walk::all::{NoVertex, size_of_all};
 use walk::marks::clear;
 
-fn graph(heap: Global, words: &[u32], records: &[[u32; 4]]) -> Result<Graph, Fail> {
+fn graph(heap: Global, words: &[u32], records: &[LinkRecord]) -> Result<Graph, Fail> {
     match graph_of(heap, words, records)? {
         Some(graph) => Ok(graph),
         None => Err(Fail::new("no object file")),
@@ -41,7 +42,11 @@ fn leaf(rt: HostRuntime) -> Result<(), Fail> {
 
 #[test]
 fn chain(rt: HostRuntime) -> Result<(), Fail> {
-    let graph = graph(rt.alloc(), &[1, 2, 4], &[[0, 0, 1, 2], [1, 4, 2, 3]])?;
+    let graph = graph(
+        rt.alloc(),
+        &[1, 2, 4],
+        &[record(0, 0, 1, 2), record(1, 4, 2, 3)],
+    )?;
     check_walk(&rt, &graph, &[0], Ok(28), "from its start");
     check_walk(&rt, &graph, &[1], Ok(24), "from its middle");
     check_walk(&rt, &graph, &[2, 1, 0], Ok(28), "from each of its vertices");
@@ -50,7 +55,12 @@ fn chain(rt: HostRuntime) -> Result<(), Fail> {
 
 #[test]
 fn diamond(rt: HostRuntime) -> Result<(), Fail> {
-    let links = [[0, 0, 1, 2], [0, 2, 2, 2], [1, 0, 3, 4], [2, 3, 3, 4]];
+    let links = [
+        record(0, 0, 1, 2),
+        record(0, 2, 2, 2),
+        record(1, 0, 3, 4),
+        record(2, 3, 3, 4),
+    ];
     let graph = graph(rt.alloc(), &[1, 1, 2, 4], &links)?;
     check_walk(&rt, &graph, &[0], Ok(32), "the shared child once");
     check_walk(&rt, &graph, &[1, 2], Ok(28), "from both sides");
@@ -60,12 +70,12 @@ fn diamond(rt: HostRuntime) -> Result<(), Fail> {
 #[test]
 fn cycles(rt: HostRuntime) -> Result<(), Fail> {
     let heap = rt.alloc();
-    let itself = graph(heap, &[1], &[[0, 0, 0, 2]])?;
+    let itself = graph(heap, &[1], &[record(0, 0, 0, 2)])?;
     check_walk(&rt, &itself, &[0], Ok(4), "a link to itself");
     let ring = graph(
         heap,
         &[1, 2, 4],
-        &[[0, 1, 1, 3], [1, 0, 2, 2], [2, 8, 0, 4]],
+        &[record(0, 1, 1, 3), record(1, 0, 2, 2), record(2, 8, 0, 4)],
     )?;
     check_walk(&rt, &ring, &[0], Ok(28), "a ring");
     check_walk(&rt, &ring, &[2, 0], Ok(28), "a ring, entered twice");
@@ -74,7 +84,7 @@ fn cycles(rt: HostRuntime) -> Result<(), Fail> {
 
 #[test]
 fn no_vertex(rt: HostRuntime) -> Result<(), Fail> {
-    let graph = graph(rt.alloc(), &[1, 2], &[[0, 0, 1, 2]])?;
+    let graph = graph(rt.alloc(), &[1, 2], &[record(0, 0, 1, 2)])?;
     check_walk(&rt, &graph, &[2], Err(NoVertex { index: 0 }), "at once");
     check_walk(
         &rt,

@@ -1,6 +1,5 @@
 // A workspace that holds an object graph, and its calls.
 #![tactic(auto)]
 
-pub mod object;
 pub mod state;
 pub mod supply;

@@ -24,30 +24,22 @@ loop-class-preserved g c =
       λ t k. g.S.Sizing.joins t _ _ (g.S.Sizing.joins t _ _ (s.4 t k) c.grow.ensures.keeps) begun.keeps,
     )
 
-pub returns-then-start-reach-2 : goal.returns-then-start-reach-2
-returns-then-start-reach-2 g c =
+pub returns-then-start-reach-2-clause-points : goal.returns-then-start-reach-2-clause-points
+returns-then-start-reach-2-clause-points g c =
     let s = c.loop-class.invariant in
     let begun = c.start-in-loop-class.ensures in
-    let same = c.grow.ensures.same ∙ s.3 in
-    let f = size_same same c.loop-class.class (c.loop-class.class + 1) in
-    let n = ap (λ (cs : Classes). cs.count) c.start.ensures.same in
-    record {
-      points = (
-        subst (λ (cs : Classes). LowestExceeds cs.size c.args.reach cs.count c.loop-class.class) c.start.ensures.same (record { within = omega arith; exceeds = omega (arith, begun.size); lowest = each_fits s.0 }),
-        c.clear_split_points.ensures ∙ growing_cleared s.0 c.requires.clear (omega arith),
-      );
-      ready = begun.ready;
-      same = begun.same ∙ same ∙ c.start.ensures.same;
-      keeps = g.S.Sizing.joins _ _ _ (g.S.Sizing.joins _ _ _ (s.4 _ c.start.ensures.keeps) c.grow.ensures.keeps) begun.keeps;
-    }
+    let f = size_same (c.grow.ensures.same ∙ s.3) c.loop-class.class (c.loop-class.class + 1) in
+    let n = ap (λ (cs : Classes). cs.count) c.start.ensures.same in (
+      subst (λ (cs : Classes). LowestExceeds cs.size c.args.reach cs.count c.loop-class.class) c.start.ensures.same (record { within = omega arith; exceeds = omega (arith, begun.size); lowest = each_fits s.0 }),
+      c.clear_split_points.ensures ∙ growing_cleared s.0 c.requires.clear (omega arith),
+    )
 
-pub returns : goal.returns
-returns g c =
+pub returns-then-start-reach-2-clause-keeps : goal.returns-then-start-reach-2-clause-keeps
+returns-then-start-reach-2-clause-keeps g c =
+    g.S.Sizing.joins _ _ _ (g.S.Sizing.joins _ _ _ (c.loop-class.invariant.4 _ c.start.ensures.keeps) c.grow.ensures.keeps) c.start-in-loop-class.ensures.keeps
+
+pub returns-clause-points : goal.returns-clause-points
+returns-clause-points g c =
     let s = c.loop-class.invariant in
     let n = ap (λ (cs : Classes). cs.count) c.start.ensures.same in
-    record {
-      points = subst (λ (cs : Classes). Cut cs c.args.reach c.loop-class.count c.args.points.now c.loop-class.points) c.start.ensures.same (growing_all s.0 (omega arith) (omega arith));
-      ready = s.1;
-      same = s.3 ∙ c.start.ensures.same;
-      keeps = s.4 _ c.start.ensures.keeps;
-    }
+    subst (λ (cs : Classes). Cut cs c.args.reach c.loop-class.count c.args.points.now c.loop-class.points) c.start.ensures.same (growing_all s.0 (omega arith) (omega arith))

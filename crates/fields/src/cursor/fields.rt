@@ -105,9 +105,7 @@ impl<'a> Cursor<'a> {
         ensures { Gives (offset width (rest self.old)) self.old.place result (rest self.new) }
     {
         let place = self.place;
-        let Some(value) = self.role(width) else {
-            return Err(self.fault());
-        };
+        let value = self.role(width).ok_or(self.fault())?;
         Ok(Located { value, place })
     }
 

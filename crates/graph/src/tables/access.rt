@@ -13,25 +13,15 @@ fn find(links: &[Link], position: u32) -> Option<Link>
     requires { Ascends links.now }
     ensures { result ≡ link_in links.now position }
 {
-    let mut low = 0;
-    let mut high = links.len();
-    while low < high {
-        let middle = low + (high - low) / 2;
-        if links[middle].position < position {
-            low = middle + 1;
-        } else {
-            high = middle;
-        }
+    let i = links.partition_point(|link| link.position < position);
+    match links.get(i) {
+        Some(link) if link.position == position => Some(*link),
+        _ => None,
     }
-    if low < links.len() {
-        let link = links[low];
-        if link.position == position {
-            return Some(link);
-        }
-    }
-    None
 }
 
+// A vertex is named by its number, and each call asks that it is in range, as an index of a slice is: a type for that would have to hold the graph.
+#[tactic(auto, using(crate::proofs::Views::count_is, crate::proofs::Views::all_joined, crate::proofs::Views::links_long, crate::proofs::Views::links_end), unfolding(crate::specs::Model::view))]
 impl Graph {
     pub fn vertex_count(&self) -> usize
         ensures value { result ≡ length (view self.now).nodes }
@@ -90,6 +80,7 @@ impl Graph {
     }
 
     // The links of a vertex.
+    // Not one function with `vertex_data`: they are of two tables, each by its own two fields of the record.
     pub fn links(&self, v: usize) -> &[Link]
         requires { v < length (view self.now).nodes }
         ensures value { result.now ≡ links_at (view self.now).nodes v }

@@ -15,6 +15,7 @@ pub const MOST_BYTES: usize = 4_000_000;
 
 impl Graph {
     // A graph without objects, which holds as much as the tables that it is given are long, up to the limits; what they held is gone.
+    #[tactic(auto, unfolding(crate::specs::Model::view))]
     pub fn new(mut vertices: Vec<Vertex>, mut links: Vec<Link>, mut bytes: Vec<u8>) -> Graph
         ensures { view result ≡ no_objects (capacity_of (vec_len vertices) (vec_len links) (vec_len bytes)) }
     {

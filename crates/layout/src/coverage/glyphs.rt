@@ -12,12 +12,11 @@ pub struct Glyphs<'a> {
     pub(super) coverage: Coverage<'a>,
     pub(super) range: usize,
     pub(super) index: usize,
+    ghost stands: { Stands coverage.bytes.now range index },
 }
 
 impl<'a> Iterator for Glyphs<'a> {
     type Item = (usize, u16);
-
-    ghost can_next = { λ s. Stands s.coverage.bytes.now s.range s.index };
 
     // At the end nothing comes; before it the next glyph comes, with its index.
     ghost next_gives = { λ s r t. (t.coverage.bytes.now ≡ s.coverage.bytes.now) × MatchOption r
@@ -27,10 +26,7 @@ impl<'a> Iterator for Glyphs<'a> {
     ghost remaining = { λ s. at_most (length (covered s.coverage.bytes.now) - s.index) };
 
     fn next(&mut self) -> Option<(usize, u16)> {
-        if self.range >= self.coverage.range_count() {
-            return None;
-        }
-        let range = self.coverage.range(self.range);
+        let range = self.coverage.range(self.range)?;
         let index = self.index;
         let glyph = range.start + (index - usize::from(range.index)) as u16;
         if glyph == range.end {

@@ -8,7 +8,7 @@ use super::Workspace;
 use crate::supply::{LIST_LEN, Supply};
 use graph::tables::Graph;
 use refusal::{Refusal, Shortage};
-use serialize::object_file::Trailer;
+use serialize::object_file::{ObjectFile, Trailer};
 
 impl Workspace {
     // An empty workspace over the caller's tables, lists and visit marks, whatever they held.
@@ -49,19 +49,17 @@ impl Workspace {
         ensures loads { Loads (view self.old) file.now result (view self.new) }
         ensures sound { SoundObjects (view self.new).graph.nodes }
     {
-        let Some(trailer) = Trailer::read(file) else {
-            return Err(Refusal::BadFile);
-        };
-        if let Some(short) = self.shortage(trailer) {
+        let file = ObjectFile::read(file).ok_or(Refusal::BadFile)?;
+        if let Some(short) = self.shortage(file.trailer) {
             return Err(Refusal::FileTooLarge(short));
         }
-        if let Some(record) = trailer.first_broken(file) {
-            return Err(Refusal::BadLink { record });
-        }
-        self.graph.fill(file, trailer);
-        self.loaded = trailer.vertices;
+        let sound = file.check_links().map_err(|broken| Refusal::BadLink {
+            record: broken.record,
+        })?;
+        self.graph.fill(sound);
+        self.loaded = file.trailer.vertices;
         self.lookup = None;
-        Ok(trailer.vertices)
+        Ok(file.trailer.vertices)
     }
 
     // What is too small for a file with this trailer.

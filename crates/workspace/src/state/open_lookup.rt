@@ -31,6 +31,7 @@ fn judge(graph: &Graph, list: &mut [u32], v: u32) -> Result<u32, Refusal>
     judged
 }
 
+#[tactic(auto, unfolding(crate::specs::Model::view))]
 impl Workspace {
     // Opens the lookup at a vertex, and answers how many subtables it has.
     pub fn open(&mut self, vertex: u32) -> Result<u32, Refusal>

@@ -4,8 +4,9 @@ ghost use Rattle.workspace.specs.Model.{view};
 ghost use Rattle.workspace.specs.Reading.{Shows};
 
 use super::Workspace;
-use crate::object::Object;
+use markbase::DataBytes;
 
+#[tactic(auto, unfolding(crate::specs::Model::view))]
 impl Workspace {
     pub fn vertex_count(&self) -> u32
         ensures { result ≡ length (view self.now).graph.nodes }
@@ -21,16 +22,12 @@ impl Workspace {
     }
 
     // The bytes and links of a vertex.
-    pub fn vertex(&self, v: u32) -> Option<Object<'_>>
+    pub fn vertex(&self, v: u32) -> Option<DataBytes<'_>>
         ensures { Shows (view self.now).graph.nodes v result }
     {
-        let v = v as usize;
-        if v >= self.graph.vertex_count() {
+        if v as usize >= self.graph.vertex_count() {
             return None;
         }
-        Some(Object {
-            bytes: self.graph.vertex_data(v),
-            links: self.graph.links(v),
-        })
+        Some(DataBytes::from_graph(&self.graph, v))
     }
 }

@@ -1,8 +1,9 @@
-use Rattle.std.proofs.Common.{refl}
-use Rattle.coverage_writers.proofs.Writes.{lawful_means}
 use Rattle.coverage_writers.proofs.Ascends.{reads_ascending}
 use Rattle.coverage_writers.proofs.Runs.{maximal}
 use Rattle.coverage_writers.proofs.laws.coverage_laws.Goals as goal
 
-pub returns : goal.returns
-returns c = record { back = λ meaning l gs bs e. (lawful_means meaning l gs bs e).1; ascending = reads_ascending; maximal = maximal; rows = (refl, refl) }
+pub returns-clause-ascending : goal.returns-clause-ascending
+returns-clause-ascending c = reads_ascending
+
+pub returns-clause-maximal : goal.returns-clause-maximal
+returns-clause-maximal c = maximal

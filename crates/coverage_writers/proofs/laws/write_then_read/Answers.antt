@@ -13,13 +13,10 @@ returns-in_err-table g c =
     let z : ◌≡◌ {A = ℕ} 0 1 = cc in
     absurd (omega arith)
 
-pub returns : goal.returns
-returns g c =
+pub returns-clause-read : goal.returns-clause-read
+returns-clause-read g c =
     let gs = c.args.glyphs.now in
     let w = c.args.writer.now in
     let m = g.W.CoverageWriter.meaning w gs in
     let back = write_back m gs c.args.out.now c.write.new.out (lawful_means _ (g.met.W.CoverageWriter.lawful w) gs) c.if-not-write.ensures.accepted c.write.ensures.bytes in
-    record {
-      read = (count_back m gs c.write.new.out c.in_ok-table.table.bytes.now c.length-length.result c.count.result c.length-length.ensures back c.in_ok-table.ensures.0 c.count.ensures, back);
-      bytes = c.write.ensures.bytes;
-    }
+    (count_back m gs c.write.new.out c.in_ok-table.table.bytes.now c.length-length.result c.count.result c.length-length.ensures back c.in_ok-table.ensures.0 c.count.ensures, back)

@@ -2,9 +2,6 @@ use Rattle.std.proofs.Common.{refl, arith}
 use Rattle.cuttingtests.proofs.Running.{run_more}
 use Rattle.cuttingtests.proofs.SharedSizing.grow.Goals as goal
 
-pub overflow_add-self : goal.overflow_add-self
-overflow_add-self c = omega (arith, c.requires.grown.small, c.taken.ensures.small, c.requires.ready.few)
-
 pub returns : goal.returns
 returns c =
     let took = c.taken.ensures in

@@ -3,9 +3,6 @@ use Rattle.cuttingtests.specs.Shared.{Run}
 use Rattle.cuttingtests.proofs.Running.{run_none, run_more}
 use Rattle.cuttingtests.proofs.SharedSizing.start.Goals as goal
 
-pub overflow_add-self : goal.overflow_add-self
-overflow_add-self c = omega (arith, c.taken.ensures.small)
-
 pub returns : goal.returns
 returns c =
     let s = c.args.self.now in

@@ -8,5 +8,5 @@ use Rattle.lookups.specs.Tables.{lookup, head_of}
 use Rattle.lookups.proofs.Heads.{tail_of}
 use Rattle.lookups.proofs.lookup.check_fields.Given as goal
 
-abbrev pub invariant-loop-i : goal.invariant-loop-i
-invariant-loop-i l = onward Err (tail_of l.kind l.flag.value l.count.value) (times (l.count.value - l.i) (offset Two) (rest l.cursor)) ≡ head_of (read lookup (node_of l.vertex))
+abbrev pub invariant-loop : goal.invariant-loop
+invariant-loop l = onward Err (tail_of l.kind l.flag.value l.count.value) (times (l.count.value - l.counter) (offset Two) (rest l.cursor)) ≡ head_of (read lookup (node_of l.vertex))

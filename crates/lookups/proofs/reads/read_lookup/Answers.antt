@@ -9,12 +9,12 @@ pub returns-in_err-check_subtables : goal.returns-in_err-check_subtables
 returns-in_err-check_subtables c =
     let p = err_from_is_err_and c.from_residual-in_err-check_subtables.result c.from_residual-in_err-check_subtables.ensures.1 in
     let read = c.in_ok-lookup.ensures in
-    let is = lookup_is (view c.args.graph.now).nodes c.args.v c.in_ok-lookup.lookup (read.0 ∙ c.from_graph.ensures.node) read.1 in
-    rw (p.1, p.2) (is ∙ ap (valued (fields_of c.in_ok-lookup.lookup read.1).fields) c.in_err-check_subtables.ensures)
+    let is = lookup_is (view c.args.graph.now).nodes c.args.v c.in_ok-lookup.lookup (read ∙ c.from_graph.ensures.node) in
+    rw (p.1, p.2) (is ∙ ap (valued (fields_of c.in_ok-lookup.lookup).fields) c.in_err-check_subtables.ensures)
 
 pub returns : goal.returns
 returns c =
     let read = c.in_ok-lookup.ensures in
-    let here = read.0 ∙ c.from_graph.ensures.node in
-    let is = lookup_is (view c.args.graph.now).nodes c.args.v c.in_ok-lookup.lookup here read.1 in
-    (ap is_ok is ∙ valued_ok (fields_of c.in_ok-lookup.lookup read.1).fields _ ∙ c.in_ok-check_subtables.ensures, here, read.1)
+    let here = read ∙ c.from_graph.ensures.node in
+    let is = lookup_is (view c.args.graph.now).nodes c.args.v c.in_ok-lookup.lookup here in
+    (ap is_ok is ∙ valued_ok (fields_of c.in_ok-lookup.lookup).fields _ ∙ c.in_ok-check_subtables.ensures, here)

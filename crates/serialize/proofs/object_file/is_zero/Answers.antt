@@ -1,20 +1,20 @@
-use Rattle.std.proofs.Common.{◌+◌, ◌&&◌, get_or, drop, sym, ap, ◌∙◌, arith}
-use Rattle.std.proofs.lemmas.List.{at_drop_more, at_drop_all}
-use Rattle.std.proofs.lemmas.Bool.{eq-eqb, ne_eqb}
+use Rattle.std.proofs.Common.{◌≡◌, ◌↔◌, ℕ, suc, true, eqb, List, [], ◌∷◌, refl, IsTrue, rules, arith}
+use Rattle.std.specs.List.{All}
+use Rattle.std.proofs.lemmas.Bool.{and_from, and_parts, eq-eqb, eqb-true}
+use Rattle.std.proofs.lemmas.Bool.Decides.{same_from_decides}
+use Rattle.std.proofs.lemmas.List.Elements.{All-cons, All-nil}
 use Rattle.serialize.specs.Objects.{zeros}
 use Rattle.serialize.proofs.object_file.is_zero.Goals as goal
 
-pub returns-then-b-ne0 : goal.returns-then-b-ne0
-returns-then-b-ne0 c =
-    let bs = c.args.bytes.now in
-    let i = c.loop-b.b-index in
-    sym (sym c.loop-b.invariant ∙ (at_drop_more zeros bs i 0 (omega arith) ∙ ap (λ t. t && zeros (drop (i + 1) bs)) (ne_eqb (get_or bs i 0) 0 c.if-b-ne0.true)))
+zeros_in : (bs : List ℕ) → All (λ b. b ≡ 0) bs → zeros bs ≡ true
+zeros_in [] each = refl
+zeros_in (b ∷ bs) each = and_from _ _ (eq-eqb b 0 (each 0 0 (omega arith))) (zeros_in bs (λ k d h. each (suc k) d (omega arith)))
 
-pub loop-b-preserved : goal.loop-b-preserved
-loop-b-preserved c =
-    let bs = c.args.bytes.now in
-    let i = c.loop-b.b-index in
-    sym (ap (λ t. t && zeros (drop (i + 1) bs)) (eq-eqb (get_or bs i 0) 0 c.if-b-ne0.false)) ∙ (sym (at_drop_more zeros bs i 0 (omega arith)) ∙ c.loop-b.invariant)
+zeros_out : (bs : List ℕ) → zeros bs ≡ true → All (λ b. b ≡ 0) bs
+zeros_out [] z = All-nil (λ x. x ≡ 0)
+zeros_out (b ∷ bs) z = let p = and_parts (eqb b 0) (zeros bs) z in All-cons (λ x. x ≡ 0) b bs (eqb-true b 0 p.0) (zeros_out bs p.1)
 
 pub returns : goal.returns
-returns c = sym (sym c.loop-b.invariant ∙ at_drop_all zeros c.args.bytes.now c.loop-b.b-index (omega arith))
+returns c =
+    let each : IsTrue c.all.result ↔ All (λ b. b ≡ 0) c.args.bytes.now = search rules in
+    same_from_decides _ _ each (zeros_out c.args.bytes.now, zeros_in c.args.bytes.now)

@@ -1,7 +1,5 @@
-use Rattle.std.proofs.Common.{◌≡◌, ℕ, List, length, take, sym, subst, arith, rules, below_more}
-use Rattle.std.proofs.lemmas.List.{take_all}
+use Rattle.std.proofs.Common.{take, sym, arith, below_more}
 use Rattle.graph.specs.Model.{view}
-use Rattle.walk.specs.Computed.{reached_size}
 use Rattle.walk.proofs.Spread.{shows_none}
 use Rattle.walk.proofs.Growing.{reached_none, grown}
 use Rattle.walk.proofs.all.size_of_all.Goals as goal
@@ -22,14 +20,3 @@ loop-index-preserved c =
       omega (arith, more.1, c.loop-index.invariant.2),
       omega (arith, c.loop-index.invariant.3, c.add_root-size.auto.visited),
     )
-
-pub returns : goal.returns
-returns c =
-    let nodes = (view c.args.graph.now).nodes in
-    let roots = c.args.roots.now in
-    let done : c.loop-index.index ≡ length roots = omega arith in
-    let all : take c.loop-index.index roots ≡ roots = take_all c.loop-index.index roots (omega arith) in
-    record {
-      value = (λ k h. c.loop-index.invariant.0 k (omega arith), subst (λ (xs : List ℕ). c.loop-index.size ≡ reached_size nodes xs) all c.loop-index.invariant.2);
-      clear = search rules;
-    }

@@ -1,4 +1,4 @@
-use Rattle.std.proofs.Common.{◌≡◌, ℕ, ◌<◌, true, false, List, length, get_or, set, sym, refl, ap, subst, arith, length-set}
+use Rattle.std.proofs.Common.{◌≡◌, ℕ, ◌<◌, true, false, List, length, get_or, set, sym, ap, subst, arith, length-set}
 use Rattle.std.proofs.lemmas.Bool.{both_ways}
 use Rattle.serialize.specs.declared.link.Link.{Link}
 use Rattle.serialize.specs.Objects.{link_at, links_at}
@@ -6,17 +6,13 @@ use Rattle.graph.specs.Model.{view}
 use Rattle.graph.proofs.Views.{sound_objects}
 use Rattle.walk.specs.Reach.{Marked}
 use Rattle.walk.proofs.Marking.{unmarked_set, unmarked_falls}
-use Rattle.walk.proofs.Spread.{Swept, Only, Sent, spreads, swept, nowhere, sent_none, sent_more, whole, adds}
+use Rattle.walk.proofs.Spread.{Swept, Only, Sent, spreads, swept, nowhere, sent_more, whole, adds}
 use Rattle.walk.proofs.Lengths.{size_set, size_small}
 use Rattle.walk.proofs.subgraph.+find_subgraph_size.Goals as goal
 
-pub returns-then-visited-v : goal.returns-then-visited-v
-returns-then-visited-v t c =
-    let s = nowhere {S = Only c.args.v} (λ r same. subst (Marked c.args.visited.now) (sym same) c.if-visited-v.true) in
-    record { marks = spreads s; closed = adds c.args.v s; size = omega arith }
-
-pub loop-link-init : goal.loop-link-init
-loop-link-init t c = (nowhere (λ r s. absurd (sent_none (links_at (view c.args.graph.now).nodes c.args.v) r s)), refl)
+pub returns-then-visited-v-clause-closed : goal.returns-then-visited-v-clause-closed
+returns-then-visited-v-clause-closed t c =
+    adds c.args.v (nowhere {S = Only c.args.v} (λ r same. subst (Marked c.args.visited.now) (sym same) c.if-visited-v.true))
 
 pub find_subgraph_size-size-requires : goal.find_subgraph_size-size-requires
 find_subgraph_size-size-requires t c =

@@ -1,27 +1,26 @@
-use Rattle.std.proofs.Common.{◌+◌, ◌-◌, ◌/◌, sym, arith}
-use Rattle.graph.proofs.Found.{link_in-some, missing, all_before, all_after}
+use Rattle.std.proofs.Common.{Some, sym, ap, ◌∙◌, rules}
+use Rattle.serialize.specs.declared.link.Link.{Link}
+use Rattle.serialize.specs.Objects.{no_link}
+use Rattle.graph.proofs.Found.{parted, link_in-parted, link_in-missing}
 use Rattle.graph.proofs.tables.access.find.Goals as goal
 
-pub returns-then-link-position : goal.returns-then-link-position
-returns-then-link-position c =
-    sym (link_in-some c.args.links.now c.loop-low.low c.args.position (omega arith) c.if-link-position.true c.loop-low.invariant.2)
-
-pub returns-else-link-position : goal.returns-else-link-position
-returns-else-link-position c =
-    sym (missing c.args.links.now c.loop-low.low c.args.position c.requires c.loop-low.invariant.2 (λ k h l. c.loop-low.invariant.3 k (omega arith) l) (λ _ e. c.if-link-position.false e))
-
-pub returns-else-low-links : goal.returns-else-low-links
-returns-else-low-links c =
-    sym (missing c.args.links.now c.loop-low.low c.args.position c.requires c.loop-low.invariant.2 (λ k h l. c.loop-low.invariant.3 k (omega arith) l) (λ h _. omega arith))
-
-pub loop-low-preserved-then-links-middle : goal.loop-low-preserved-then-links-middle
-loop-low-preserved-then-links-middle c =
+pub returns-in-Some : goal.returns-in-Some
+returns-in-Some c =
     let ls = c.args.links.now in
-    let m = c.loop-low.low + (c.loop-low.high - c.loop-low.low) / 2 in
-    (omega arith, c.loop-low.invariant.1, (λ i h. all_before ls m c.args.position c.requires (omega arith) c.if-links-middle.true i (omega arith)), c.loop-low.invariant.3)
+    let at = parted ls c.args.position _ c.requires c.partition_point-i.ensures.partitioned (λ a r q k. search rules) in
+    let found = c.in-Some.ensures.lookup.3 in
+    let is = found.1 no_link in
+    ap Some is ∙ sym (link_in-parted ls _ _ at found.0 (ap (λ (l : Link). l.position) (sym is) ∙ c.if-link-position.true))
 
-pub loop-low-preserved : goal.loop-low-preserved
-loop-low-preserved c =
+pub returns-in_default : goal.returns-in_default
+returns-in_default c =
     let ls = c.args.links.now in
-    let m = c.loop-low.low + (c.loop-low.high - c.loop-low.low) / 2 in
-    (omega arith, omega arith, c.loop-low.invariant.2, (λ i h l. all_after ls m c.args.position c.requires c.if-links-middle.false i h l))
+    let at = parted ls c.args.position _ c.requires c.partition_point-i.ensures.partitioned (λ a r q k. search rules) in
+    let is = c.in-Some.ensures.lookup.3.1 no_link in
+    sym (link_in-missing ls _ _ c.requires at (λ h e. c.if-link-position.false (ap (λ (l : Link). l.position) is ∙ e)))
+
+pub returns-in_default-2 : goal.returns-in_default-2
+returns-in_default-2 c =
+    let ls = c.args.links.now in
+    let at = parted ls c.args.position _ c.requires c.partition_point-i.ensures.partitioned (λ a r q k. search rules) in
+    sym (link_in-missing ls _ _ c.requires at (λ h e. let some = rw c.in_default.is at (c.get.ensures.lookup.2 h) in cc))

@@ -5,6 +5,8 @@ use Rattle.graph.proofs.tables.load.fill_links.Given as goal
 
 abbrev pub invariant-loop-i : goal.invariant-loop-i
 invariant-loop-i l =
-    (vec_items l.links ≡ map link_from (map (record_at l.file l.trailer) (range_with_len 0 l.i)))
-    × (vec_len l.links ≡ l.i)
-    × (vec_capacity l.links ≡ vec_capacity l.initial.links)
+    record {
+      items : vec_items l.links ≡ map link_from (map (record_at l.file.bytes.now l.file.trailer) (range_with_len 0 l.i));
+      len : vec_len l.links ≡ l.i;
+      capacity : vec_capacity l.links ≡ vec_capacity l.fn.links;
+    }

@@ -6,8 +6,12 @@ use Rattle.graph.proofs.tables.load.fill_vertices.Given as goal
 
 abbrev pub invariant-loop-v : goal.invariant-loop-v
 invariant-loop-v l =
-    (vec_items l.vertices ≡ map (row_at l.file l.trailer) (range_with_len 0 l.v))
-    × (vec_len l.vertices ≡ l.v)
-    × (vec_capacity l.vertices ≡ vec_capacity l.initial.vertices)
-    × (l.head ≡ start_at l.file l.trailer l.v)
-    × (l.first ≡ first_of l.file l.trailer l.v)
+    let file = l.sound.file.bytes.now in
+    let t = l.sound.file.trailer in
+    record {
+      items : vec_items l.vertices ≡ map (row_at file t) (range_with_len 0 l.v);
+      len : vec_len l.vertices ≡ l.v;
+      capacity : vec_capacity l.vertices ≡ vec_capacity l.fn.vertices;
+      head : l.head ≡ start_at file t l.v;
+      first : l.first ≡ first_of file t l.v;
+    }

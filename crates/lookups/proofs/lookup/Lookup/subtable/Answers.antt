@@ -1,19 +1,19 @@
-use Rattle.std.proofs.Common.{sym, ap, ◌∙◌}
+use Rattle.std.proofs.Common.{ap, ◌∙◌}
 use Rattle.serialize.specs.declared.link.LinkWidth.TheVariants.{Two}
 use Rattle.fields.specs.Fields.{offset}
-use Rattle.fields.proofs.Seeks.{ok_pair, not_ok}
+use Rattle.fields.proofs.Seeks.{given_ok, given_value}
 use Rattle.lookups.proofs.Offsets.{subtable_at_lem}
 use Rattle.lookups.proofs.lookup.Lookup.subtable.Goals as goal
 
-pub seek-cursor-requires : goal.seek-cursor-requires
-seek-cursor-requires c = record { ascending = c.requires.stands.ascending; within = (subtable_at_lem c.args.self.now c.requires.stands c.args.i c.requires.within).0 }
+pub seek-cursor-requires-clause-within : goal.seek-cursor-requires-clause-within
+seek-cursor-requires-clause-within c = (subtable_at_lem c.args.self.now c.args.i c.requires).0
 
-pub unreachable-requires : goal.unreachable-requires
-unreachable-requires c =
-    let e = (subtable_at_lem c.args.self.now c.requires.stands c.args.i c.requires.within).1 in
-    not_ok (sym c.in-Err.ensures ∙ ap (offset Two) c.seek-cursor.ensures ∙ e.1)
+pub unwrap-requires : goal.unwrap-requires
+unwrap-requires c =
+    let here = (subtable_at_lem c.args.self.now c.args.i c.requires).1 in
+    given_ok _ _ _ _ _ (ap (offset Two) c.seek-cursor.ensures ∙ here.1) _ c.offset.ensures
 
 pub returns : goal.returns
 returns c =
-    let e = (subtable_at_lem c.args.self.now c.requires.stands c.args.i c.requires.within).1 in
-    (ok_pair (sym c.in-Ok.ensures.0 ∙ ap (offset Two) c.seek-cursor.ensures ∙ e.1)).0
+    let here = (subtable_at_lem c.args.self.now c.args.i c.requires).1 in
+    given_value _ _ _ _ _ (ap (offset Two) c.seek-cursor.ensures ∙ here.1) _ _ c.offset.ensures c.unwrap.ensures

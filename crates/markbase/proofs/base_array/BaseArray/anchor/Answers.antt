@@ -1,26 +1,20 @@
-use Rattle.std.proofs.Common.{sym, ap, ◌∙◌}
-use Rattle.markbase.specs.Views.{rows_of}
+use Rattle.std.proofs.Common.{ap, ◌∙◌}
 use Rattle.fields.specs.Fields.{nullable}
-use Rattle.fields.proofs.Seeks.{ok_pair, not_ok}
-use Rattle.markbase.proofs.Records.{anchor_at, anchor_within}
+use Rattle.fields.proofs.Seeks.{given_ok, given_value}
+use Rattle.markbase.proofs.Records.{null_at, null_within}
 use Rattle.markbase.proofs.base_array.BaseArray.anchor.Goals as goal
 
-pub seek-cursor-requires : goal.seek-cursor-requires
-seek-cursor-requires c =
-    let m = c.args.self.now in
-    let ok = c.requires.stands in
-    record { ascending = ok.ascending; within = anchor_within m.vertex.bytes.now m.vertex.links.now ok.ascending m.count m.class_count (rows_of m) ok.rows c.args.base c.args.class c.requires.base c.requires.class }
+pub seek-cursor-requires-clause-within : goal.seek-cursor-requires-clause-within
+seek-cursor-requires-clause-within c = null_within c.args.self.now c.args.base c.args.class c.requires.base c.requires.class
 
-pub unreachable-requires : goal.unreachable-requires
-unreachable-requires c =
+pub unwrap-requires : goal.unwrap-requires
+unwrap-requires c =
     let m = c.args.self.now in
-    let ok = c.requires.stands in
-    let e = anchor_at m.vertex.bytes.now m.vertex.links.now ok.ascending m.count m.class_count (rows_of m) ok.rows c.args.base c.args.class c.requires.base c.requires.class in
-    not_ok (sym c.in-Err.ensures ∙ ap nullable c.seek-cursor.ensures ∙ e.1)
+    let here = null_at m c.args.base c.args.class c.requires.base c.requires.class in
+    given_ok _ _ _ _ _ (ap nullable c.seek-cursor.ensures ∙ here.1) _ c.nullable.ensures
 
 pub returns : goal.returns
 returns c =
     let m = c.args.self.now in
-    let ok = c.requires.stands in
-    let e = anchor_at m.vertex.bytes.now m.vertex.links.now ok.ascending m.count m.class_count (rows_of m) ok.rows c.args.base c.args.class c.requires.base c.requires.class in
-    (ok_pair (sym c.in-Ok.ensures.0 ∙ ap nullable c.seek-cursor.ensures ∙ e.1)).0
+    let here = null_at m c.args.base c.args.class c.requires.base c.requires.class in
+    given_value _ _ _ _ _ (ap nullable c.seek-cursor.ensures ∙ here.1) _ _ c.nullable.ensures c.unwrap.ensures

@@ -1,11 +1,8 @@
-use Rattle.std.proofs.Common.{rules}
+use Rattle.std.proofs.Common.{ap, rules}
+use Rattle.serialize.specs.Objects.{Node}
 use Rattle.workspace.specs.Model.{view}
 use Rattle.workspace.proofs.state.Workspace.vertex.Goals as goal
 
-pub returns-then-v-vertex_count : goal.returns-then-v-vertex_count
-unfolding view
-returns-then-v-vertex_count c = search rules
-
 pub returns : goal.returns
 unfolding view
-returns c = search rules
+returns c = (search rules, ap (λ (x : Node). x.bytes) c.from_graph.ensures.node, ap (λ (x : Node). x.links) c.from_graph.ensures.node)

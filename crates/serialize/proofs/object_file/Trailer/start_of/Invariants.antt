@@ -1,6 +1,0 @@
-use Rattle.std.proofs.Common.{◌≡◌, ◌*◌, ◌≤◌}
-use Rattle.serialize.specs.ObjectFile.{start_at}
-use Rattle.serialize.proofs.object_file.Trailer.start_of.Given as goal
-
-abbrev pub invariant-loop-v : goal.invariant-loop-v
-invariant-loop-v l = (l.at ≡ start_at l.file l.self l.v) × (l.at ≤ l.v * 4294967295)

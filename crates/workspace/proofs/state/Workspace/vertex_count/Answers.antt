@@ -1,7 +1,0 @@
-use Rattle.std.proofs.Common.{rules}
-use Rattle.workspace.specs.Model.{view}
-use Rattle.workspace.proofs.state.Workspace.vertex_count.Goals as goal
-
-pub returns : goal.returns
-unfolding view
-returns c = search rules
