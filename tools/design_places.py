@@ -93,18 +93,18 @@ for path, source in sources():
             note(kind, path, text.count("\n", 0, m.start()) + 1, source.split("\n")[text.count("\n", 0, m.start())])
 
     lines("1 a number as an error", r"Result<[^<>;{]*(?:<[^<>]*>)?[^<>;{]*, (?:u8|u16|u32|u64|usize|bool)>")
-    lines("1 a number for a kind", r"^\s*(?:pub )?(?:tag|kind|width|code): (?:u8|u16|u32),$")
-    lines("1 an own enum", r"^\s*(?:pub(?:\(\w+\))? )?enum \w+")
+    lines("1 a number for a kind", r"^[ \t]*(?:pub )?(?:tag|kind|width|code): (?:u8|u16|u32),$")
+    lines("1 an own enum", r"^[ \t]*(?:pub(?:\(\w+\))? )?enum \w+")
     lines("1 a yes or no beside a written value", r"fn \w+\([^)]*&mut [^)]*\) -> bool")
     lines("3 while", r"\bwhile\b")
     lines("3 for over numbers", r"\bfor \w+ in [^{\n]*\.\.")
     lines("3 a search or a test of all by a loop", r"\bfor [^{\n]+\{\s*if [^{]*\{\s*return [\w()]+;\s*\}\s*\}")
-    lines("3 a counter by hand", r"^\s*\w+ \+= \d+;")
+    lines("3 a counter by hand", r"^[ \t]*\w+ \+= \d+;")
     lines("4 Ok as Ok, Err as another Err", r"Ok\((\w+)\) => Ok\(\1\),")
     lines("4 a trait by hand", r"^impl(?:<[^>]*>)? (?:Clone|Copy|PartialEq|Eq|PartialOrd|Ord|Hash|Debug|Default)(?:<[^>]*>)? for")
     lines("4 Some, or None, by a test", r"\{ Some\(\w+\) \} else \{ None \}")
     lines("6 a search by halving", r"let middle\b")
-    lines("6 a length or a place beside a table", r"^\s*(?:pub )?(?:len|head|first_link|link_count): usize,$")
+    lines("6 a length or a place beside a table", r"^[ \t]*(?:pub )?(?:len|head|first_link|link_count): usize,$")
     lines("6 a filled list with its count", r"\w+\[count\] = ")
     lines("7 a switch on a step", r"match (?:axis|tag|record\.tag|step|op)\b")
     lines("7 a table of functions", r"\[fn\(|: fn\(")
@@ -138,7 +138,7 @@ for (crate, clause), where in sorted(clauses_by.items()):
         first = min(where)
         note("5 a fact required by three or more", first[0], first[1], "%d times: %s" % (len(where), clause))
 for (crate, p, q), where in sorted(parameters_by.items()):
-    if len(where) >= 3 and p[1] not in ("HostRuntime", "Global") and q[1] not in ("HostRuntime", "Global") and "Abort" not in p[1] + q[1]:
+    if len(where) >= 3 and p[1].lstrip("&") not in ("HostRuntime", "Global") and q[1].lstrip("&") not in ("HostRuntime", "Global") and "Abort" not in p[1] + q[1]:
         first = min(where)
         note("5 parameters together in three or more", first[0], first[1], "%d times: %s: %s, %s: %s" % (len(where), p[0], p[1], q[0], q[1]))
 

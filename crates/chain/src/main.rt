@@ -12,11 +12,7 @@ const COUNT: u32 = 20_000;
 
 // A link from each vertex but the last to the next.
 fn links(heap: Global) -> Result<Vec<LinkRecord>, AllocError> {
-    let mut links = Vec::new(heap);
-    for v in 1..COUNT {
-        links.push(record(v - 1, 0, v, 2))?;
-    }
-    Ok(links)
+    (1..COUNT).map(|v| record(v - 1, 0, v, 2)).collect(heap)
 }
 
 // The length of all that vertex 0 reaches, if there are marks for all vertices.

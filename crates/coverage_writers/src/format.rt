@@ -6,6 +6,7 @@ ghost use Rattle.coverage_writers.specs.Formats.{meaning_by};
 use crate::writer::is_listed;
 
 /// The tables of the lists that have one.
+// No impl of `CoverageWriter` for every format, since other crates write impls of their own; glyphs and buffer are two parameters, as there.
 pub trait Format {
     // The bytes for a list.
     ghost bytes: { List ℕ → List ℕ };

@@ -9,7 +9,7 @@ use crate::writer::CoverageWriter;
 use layout::{Coverage, CoverageFault};
 
 /// Why glyphs did not come back: the writer declined, or the table that it wrote is broken.
-#[derive(Clone, Copy, PartialEq, Debug)]
+#[derive(Clone, Copy, Debug, PartialEq, Eq)]
 pub enum Unread {
     Declined,
     Broken(CoverageFault),

@@ -5,7 +5,7 @@ use crate::cases::{place_of, two};
 use markbase::{BaseArray, DataBytes, MarkArray};
 use serialize::link::Link;
 
-// One for each array: a single one would take the reader as a function, with what it requires, and read no plainer.
+// One for each array, with what its `read` requires: a single one would take the reader and that as a function, and read no plainer.
 fn marks_broken<'a>(
     bytes: &'a [u8],
     links: &'a [Link],

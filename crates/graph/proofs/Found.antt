@@ -1,10 +1,13 @@
 -- The link at a position, in ascending links.
-use Rattle.std.proofs.Common.{◌≡◌, ℕ, zero, suc, ◌<◌, Bool, true, false, cond, ltb, get_or, List, [], ◌∷◌, length, Some, None, sym, refl, ap, ◌∙◌, inl, inr, arith}
-use Rattle.std.proofs.lemmas.Bool.{eq-eqb, ne_eqb, cases_eq, cases_order, ltb-true, ltb-false}
+use Rattle.std.proofs.Common.{◌≡◌, ℕ, zero, suc, ◌<◌, Bool, true, false, cond, eqb, ltb, get_or, List, [], ◌∷◌, length, Some, None, Option, MatchOption, unwrap_or, sym, refl, ap, ◌∙◌, inl, inr, arith}
+use Rattle.std.proofs.lemmas.Bool.{eq-eqb, eqb-true, ne_eqb, both_ways, cases_eq, cases_order, ltb-true, ltb-false}
 use Rattle.std.proofs.lemmas.List.{get_or_default}
 use Rattle.std.proofs.lemmas.List.Sorted.{IsPartitionedBy-ltb, IsPartitionPoint-from_clause}
 use Rattle.std.specs.List.Sorted.{IsNonDecreasingBy, IsPartitionedBy, IsPartitionPoint}
 use Rattle.std.specs.Fn.{Called, ComputesKey}
+use Rattle.std.specs.Bool.{then_some}
+use Rattle.std.specs.Option.{option_copied}
+use Rattle.std.specs.Slice.{IsItemAt}
 use denote.Param.Members.{Mut}
 use denote.Ref.{Bor}
 use Rattle.serialize.specs.declared.link.Link.{Link}
@@ -64,3 +67,19 @@ link_in-missing ls pos i up parted here =
             | inr more ↦ omega (arith, up i k more h, ltb-false _ _ (parted.1 i no_link (omega arith) (omega arith)), wide (link_at ls i).width)
           ]
     ])
+
+-- what `filter` leaves of the link that `get` finds at that place, where the call asks whether it begins at the position
+pub link_in-kept : (Says : Bor Link → Bool → Type 0) (ls : List Link) (pos i : ℕ) (got : Option (Bor Link)) (o r : Option Link) → Ascends ls → Parted ls pos i
+    → IsItemAt ls i got → o ≡ option_copied got → MatchOption o (r ≡ None) (λ x. (b : Bool) × ((y : Bor Link) × Says y b × (y.now ≡ x)) × (r ≡ then_some b x))
+    → ((y : Bor Link) (b : Bool) → Says y b → b ≡ eqb y.now.position pos) → r ≡ link_in ls pos
+link_in-kept Says ls pos i None None r up at item is left calls = left ∙ sym (link_in-missing ls pos i up at (λ h e. absurd (omega (arith, h, item.3))))
+link_in-kept Says ls pos i None (Some x) r up at item is left calls = absurd (let z : ◌≡◌ {A = ℕ} 0 1 = cc in omega arith)
+link_in-kept Says ls pos i (Some y) None r up at item is left calls = absurd (let z : ◌≡◌ {A = ℕ} 0 1 = cc in omega arith)
+link_in-kept Says ls pos i (Some y) (Some x) r up at item is left calls =
+    let here : x ≡ link_at ls i = ap (λ (o : Option Link). unwrap_or o x) is ∙ item.3.1 no_link in
+    let asks = calls left.1.0 left.0 left.1.1 ∙ ap (λ (z : Link). eqb z.position pos) (left.1.2 ∙ here) in
+    left.2 ∙ (ap (then_some left.0) here ∙ tested left.0 asks)
+  where
+    tested : (b : Bool) → b ≡ eqb (link_at ls i).position pos → then_some b (link_at ls i) ≡ link_in ls pos
+    tested true e = sym (link_in-parted ls pos i at item.3.0 (eqb-true _ _ (sym e)))
+    tested false e = sym (link_in-missing ls pos i up at (λ _ same. absurd (both_ways _ (sym e) (eq-eqb _ _ same))))

@@ -1,5 +1,6 @@
 pub mod Found
 pub mod Views
+pub mod Places
 pub mod Segments
 pub mod Filled
 pub mod Counts

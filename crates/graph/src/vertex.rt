@@ -1,6 +1,7 @@
 // The records of the vertex table.
 
 // A vertex: its bytes are `bytes[head .. head + len]`, its links `links[first_link .. first_link + link_count]`.
+// The numbers are places in the graph's two tables, which are fixed memory of the caller.
 #[derive(Clone, Copy)]
 pub struct Vertex {
     pub head: usize,

@@ -21,7 +21,7 @@ enum Records<'a> {
 #[derive(Clone, Copy)]
 pub struct Coverage<'a> {
     bytes: &'a [u8],
-    ghost sound: { Sound bytes.now },
+    pub ghost sound: { Sound bytes.now },
 }
 
 impl<'a> Coverage<'a> {

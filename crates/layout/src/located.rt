@@ -6,7 +6,7 @@ pub struct Located<T> {
 }
 
 /// The place of the first broken field of a Coverage table.
-#[derive(Clone, Copy, PartialEq, Debug)]
+#[derive(Clone, Copy, Debug, PartialEq, Eq)]
 pub struct CoverageFault {
     pub place: usize,
 }

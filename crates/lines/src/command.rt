@@ -83,7 +83,7 @@ fn numeral(digits: &[u8]) -> Option<u32>
     if digits.is_empty() || digits.len() > MOST_DIGITS {
         return None;
     }
-    // A loop and no fold, since its invariant keeps the value small enough for the next digit.
+    // A loop and no `parse`, which takes text: the digits would have to be shown to be text first, and a fold to be small at each step.
     let mut value: u64 = 0;
     for digit in digits {
         value = 10 * value + u64::from(*digit - b'0');

@@ -75,6 +75,7 @@ fn trailer_words(rt: HostRuntime) -> Result<(), Fail> {
     let heap = rt.alloc();
     let right = file(heap, &AREA, &LENGTHS, &linked())?;
     check_load(&rt, heap, right.as_slice(), Ok(3), "right")?;
+    // By number: `i` is the place of the word that is changed.
     for i in 0..5usize {
         for change in [1, 0xffff_ffff] {
             let mut off = [0; 5];

@@ -7,7 +7,7 @@ ghost use Rattle.markbase.specs.Nodes.{node_of, read};
 use crate::data::DataBytes;
 use fields::{Cursor, Fault};
 
-// Not one generic array with `MarkArray`: over a trait of records it is 22 lines longer, by a marker type and an impl for each record and a `Clone` by hand, and over a closure for a record 5 lines, by clauses about its calls.
+// Not one generic array with `MarkArray`: a trait of records needs a marker type and an impl for each and a `Clone` by hand, and a closure for a record clauses about its calls.
 /// A base array of `count` bases, each with an anchor or a null for each of `class_count` classes.
 #[derive(Clone, Copy)]
 pub struct BaseArray<'a> {

@@ -4,6 +4,7 @@ ghost use Rattle.markbase.specs.Nodes.{node_of, read};
 ghost use Rattle.markbase.specs.Tables.{extension};
 
 use crate::data::DataBytes;
+use crate::lookup_type::LookupType;
 use fields::{Cursor, Fault};
 use serialize::link::LinkWidth;
 
@@ -26,7 +27,7 @@ impl ExtensionSubtable {
             });
         }
         let kind = cursor.word()?;
-        if kind.value != 4 {
+        if kind.value != LookupType::MarkToBase as u16 {
             return Err(Fault { place: kind.place });
         }
         let Some(subtable) = cursor.role(LinkWidth::Four) else {

@@ -120,6 +120,7 @@ impl Refusal {
     }
 }
 
+// An impl for each of the two enums: one for both would be a trait with their numbers, which is longer.
 impl fmt::Display for Shortage {
     ghost output = { λ s. Some (decimal (shortage_number s)) };
 

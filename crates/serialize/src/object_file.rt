@@ -36,14 +36,14 @@ pub struct LinkRecord {
 pub struct ObjectFile<'a> {
     pub bytes: &'a [u8],
     pub trailer: Trailer,
-    ghost read: { trailer_of bytes.now ≡ Some trailer },
+    pub ghost read: { trailer_of bytes.now ≡ Some trailer },
 }
 
 // An object file whose link records keep every rule.
 #[derive(Clone, Copy)]
 pub struct SoundFile<'a> {
     pub file: ObjectFile<'a>,
-    ghost sound: { first_broken file.bytes.now file.trailer ≡ None },
+    pub ghost sound: { first_broken file.bytes.now file.trailer ≡ None },
 }
 
 // The first link record that breaks a rule, alone or with those before it.
@@ -157,6 +157,7 @@ impl Trailer {
         ensures stands { StandsAt file.now self result }
     {
         let mut start = scan.start;
+        // A running sum: on the way it is each vertex's place, and this bounds each addition.
         for v in scan.vertex..vertex {
             start += self.length(file, v) as usize;
         }
@@ -256,6 +257,7 @@ impl<'a> ObjectFile<'a> {
         ensures { result ≡ first_broken self.entry.bytes.now self.entry.trailer }
     {
         let mut scan = Scan::START;
+        // By number: a record is read out of the file's bytes, and no slice holds the records.
         for i in 0..self.trailer.links {
             let Some(next) = self.check(i, scan) else {
                 return Some(i);

@@ -120,13 +120,6 @@ fn load(heap: Global, bytes: &[u8]) -> Result<Option<Graph>, AllocError> {
     Ok(Some(graph))
 }
 
-fn put_zeros(bytes: &mut Vec<u8>, count: u32) -> Result<(), AllocError> {
-    for _ in 0..count {
-        bytes.extend_from_slice(&[0; 4])?;
-    }
-    Ok(())
-}
-
 // A graph of vertices that have these numbers of words of four bytes, with these link records. None if it cannot be loaded.
 pub fn graph_of(
     heap: Global,
@@ -136,7 +129,7 @@ pub fn graph_of(
     let mut area = Vec::new(heap);
     let mut lengths = Vec::new(heap);
     for count in words {
-        put_zeros(&mut area, *count)?;
+        area.resize(area.len() + 4 * *count as usize, 0)?;
         lengths.push(count.wrapping_mul(4))?;
     }
     let file = file(heap, area.as_slice(), lengths.as_slice(), records)?;

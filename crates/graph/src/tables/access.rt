@@ -14,10 +14,10 @@ fn find(links: &[Link], position: u32) -> Option<Link>
     ensures { result ≡ link_in links.now position }
 {
     let i = links.partition_point(|link| link.position < position);
-    match links.get(i) {
-        Some(link) if link.position == position => Some(*link),
-        _ => None,
-    }
+    links
+        .get(i)
+        .copied()
+        .filter(|link| link.position == position)
 }
 
 // A vertex is named by its number, and each call asks that it is in range, as an index of a slice is: a type for that would have to hold the graph.

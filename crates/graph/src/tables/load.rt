@@ -14,12 +14,9 @@ fn records_end(sound: SoundFile<'_>, first: u32, v: u32) -> u32
     ensures { result ≡ first_of sound.entry.file.bytes.now sound.entry.file.trailer (v + 1) }
 {
     let file = sound.file;
-    for i in first..file.trailer.links {
-        if file.record(i).parent != v {
-            return i;
-        }
-    }
-    file.trailer.links
+    (first..file.trailer.links)
+        .find(|i| file.record(*i).parent != v)
+        .unwrap_or(file.trailer.links)
 }
 
 // The vertex table of a file, in place of what the table held.
@@ -32,6 +29,7 @@ fn fill_vertices(vertices: &mut Vec<Vertex>, sound: SoundFile<'_>)
     vertices.clear();
     let mut head = 0;
     let mut first = 0;
+    // By number: the lengths are bytes of the file, and no slice holds them.
     for v in 0..sound.file.trailer.vertices {
         let len = sound.file.length(v) as usize;
         let end = records_end(sound, first, v);
@@ -54,6 +52,7 @@ fn fill_links(links: &mut Vec<Link>, file: ObjectFile<'_>)
     ensures capacity { vec_capacity links.new ≡ vec_capacity links.old }
 {
     links.clear();
+    // By number: the records are bytes of the file, and no slice holds them.
     for i in 0..file.trailer.links {
         links.push_reserved(file.record(i).link());
     }

@@ -12,7 +12,7 @@ pub struct Glyphs<'a> {
     pub(super) coverage: Coverage<'a>,
     pub(super) range: usize,
     pub(super) index: usize,
-    ghost stands: { Stands coverage.bytes.now range index },
+    pub ghost stands: { Stands coverage.bytes.now range index },
 }
 
 impl<'a> Iterator for Glyphs<'a> {

@@ -63,6 +63,7 @@ impl Workspace {
     }
 
     // What is too small for a file with this trailer.
+    // Four tests in their order, and no table of them: three compare two numbers, the last asks all lists.
     fn shortage(&self, trailer: Trailer) -> Option<Shortage>
         ensures { result ≡ shortage (view self.now) trailer }
     {

@@ -1,30 +1,33 @@
-use Rattle.std.proofs.Common.{◌+◌, ◌≢◌, sym, ap, ◌∙◌, arith, below_more}
-use Rattle.serialize.specs.declared.object_file.LinkRecord.{LinkRecord}
+use Rattle.std.proofs.Common.{ℕ, ◌≡◌, ◌+◌, ◌<◌, ◌≤◌, Bool, not, eqb, true, false, sym, ap, ◌∙◌, inl, inr, arith, rules}
+use Rattle.std.proofs.lemmas.Bool.{cases_lt}
+use Rattle.std.proofs.lemmas.Bool.Decides.{nat_tests}
 use Rattle.serialize.specs.ObjectFile.{record_at}
 use Rattle.graph.proofs.Segments.{loadable, first_le, first_before, first_after, first_is}
+use Rattle.graph.proofs.Places.{found_from}
 use Rattle.graph.proofs.tables.load.records_end.Goals as goal
 
-pub loop-i-init : goal.loop-i-init
-loop-i-init c k h =
-    let t = c.args.sound.file.trailer in
-    omega (arith, first_before c.args.sound.file.bytes.now t c.args.v k (omega arith))
+same : (a b : ℕ) → not (eqb a b) ≡ false → a ≡ b
+same a b e = grind (arith, nat_tests)
 
-pub loop-i-preserved : goal.loop-i-preserved
-loop-i-preserved c = below_more _ _ c.loop-i.invariant (omega (arith, ap (λ (r : LinkRecord). r.parent) c.record.ensures))
-
-pub returns-then-record-v : goal.returns-then-record-v
-returns-then-record-v c =
-    let file = c.args.sound.file.bytes.now in
-    let t = c.args.sound.file.trailer in
-    let i = c.loop-i.i in
-    let ge = first_after file t (loadable c.args.sound) c.args.v i (omega arith) (omega arith) in
-    let is = ap (λ (r : LinkRecord). r.parent) c.record.ensures in
-    let ne : (record_at file t i).parent ≢ c.args.v = λ e. c.if-record-v.true (is ∙ e) in
-    sym (first_is file t (c.args.v + 1) i (omega arith) c.loop-i.invariant (λ _. omega arith))
+other : (a b : ℕ) → not (eqb a b) ≡ true → b ≤ a → b + 1 ≤ a
+other a b e le = grind (arith, nat_tests)
 
 pub returns : goal.returns
 returns c =
     let file = c.args.sound.file.bytes.now in
     let t = c.args.sound.file.trailer in
-    let le = first_le file t c.args.v in
-    sym (first_is file t (c.args.v + 1) t.links (omega arith) (λ k h. c.loop-i.invariant k (omega arith)) (λ h. absurd (omega arith)))
+    let v = c.args.v in
+    let end = c.unwrap_or.result in
+    let passes : ℕ → Bool = λ k. not (eqb (record_at file t k).parent v) in
+    let found = found_from _ passes (λ a r q k. (search rules, search rules)) c.args.first t.links _ _ (search rules) (omega (arith, first_le file t v)) c.find.ensures.runs in
+    let is = c.unwrap_or.ensures in
+    let below : (k : ℕ) → k < end → (record_at file t k).parent < v + 1 = λ k h.
+    elim (cases_lt k c.args.first) [
+      | inl early ↦ omega (arith, first_before file t v k (omega arith))
+      | inr late ↦ omega (arith, same _ _ (found.2 k late (omega arith)))
+    ]
+    in
+    let past : end < t.links → v + 1 ≤ (record_at file t end).parent = λ h.
+    other _ _ (ap passes is ∙ found.3 (omega arith)) (first_after file t (loadable c.args.sound) v end (omega (arith, found.0)) h)
+    in
+    sym (first_is file t (v + 1) end (omega (arith, found.1)) below past)
