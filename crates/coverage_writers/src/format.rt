@@ -5,7 +5,7 @@ ghost use Rattle.coverage_writers.specs.Formats.{meaning_by};
 
 use crate::writer::is_listed;
 
-/// The tables of the lists that have one.
+/// The tables of the lists that have one. Each method asks that of its list: a type for such lists would be made at each call, and for that call alone.
 // No impl of `CoverageWriter` for every format, since other crates write impls of their own; glyphs and buffer are two parameters, as there.
 pub trait Format {
     // The bytes for a list.

@@ -9,6 +9,7 @@ ghost use Rattle.cuttingtests.specs.Worked.{Worked};
 use cutting::{ClassTooLarge, Sizing, compute_split_points};
 
 // Classes that each use a thing. A run's size is a base and the sizes of the things that its classes use, each once.
+// Marks and sizes are two lists, as long as each other: the marks are lent and written, the sizes are only read.
 pub struct Shared<'m, 'a> {
     pub marks: &'m mut [bool],
     pub base: u32,

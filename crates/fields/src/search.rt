@@ -5,6 +5,7 @@ ghost use Rattle.fields.specs.Fields.{from};
 
 use serialize::link::Link;
 
+// That the links ascend is asked here and where links are searched: a slice holds no such fact, and a graph's own links have it.
 /// How many links start before `place`.
 pub fn links_before(links: &[Link], place: usize) -> usize
     requires { Ascends links.now }

@@ -66,9 +66,7 @@ fn extensions(rt: HostRuntime) {
 fn roles(rt: HostRuntime) -> Result<(), Fail> {
     let links = [two(2, 7), two(4, 8), two(8, 9), two(10, 6)];
     let case = sound(&[0, 1, 0, 0, 0, 0, 0, 3, 0, 0, 0, 0], &links);
-    let Ok(table) = MarkBasePosFormat1::read(case.data()) else {
-        return Err(Fail::new("broken"));
-    };
+    let table = MarkBasePosFormat1::read(case.data()).map_err(|_| Fail::new("broken"))?;
     assert_eq!(rt; table.mark_coverage, 7);
     assert_eq!(rt; table.base_coverage, 8);
     assert_eq!(rt; table.class_count, 3);

@@ -48,6 +48,7 @@ impl<'a> Coverage<'a> {
         ensures { Tabled self.now.bytes.now result }
     {
         let rest = &self.bytes[4..];
+        // The format is a number here, as in the reader: `Records` is the enum that is made of it.
         if u16::from_be_bytes([self.bytes[0], self.bytes[1]]) == 1 {
             Records::Glyphs(rest.as_chunks::<2>().0)
         } else {

@@ -146,7 +146,7 @@ pub fn check(bytes: &[u8]) -> Result<(), CoverageFault>
     let [f0, f1, body @ ..] = bytes else {
         return Err(CoverageFault { place: 0 });
     };
-    // The format stays a number: an enum for it would be made of it and matched in these few lines alone.
+    // The format stays a number here and in `Coverage::records`, which asks it once.
     let format = u16::from_be_bytes([*f0, *f1]);
     if format != 1 && format != 2 {
         return Err(CoverageFault { place: 0 });

@@ -365,9 +365,7 @@ fn check_vertex(
     bytes: &[u8],
     links: usize,
 ) -> Result<(), Fail> {
-    let Some(object) = w.vertex(v) else {
-        return Err(Fail::new("no such vertex"));
-    };
+    let object = w.vertex(v).ok_or_else(|| Fail::new("no such vertex"))?;
     assert_eq!(rt; object.bytes, bytes);
     assert_eq!(rt; object.links.len(), links);
     Ok(())

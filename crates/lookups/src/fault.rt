@@ -49,6 +49,7 @@ impl From<LookupFault> for Refusal {
     }
 }
 
+// Not one function with `in_part`: each layer has its own fault.
 /// What was read of the subtable at this place.
 pub fn in_subtable<T>(subtable: u16, read: Result<T, PartFault>) -> Result<T, LookupFault>
     ensures { result ≡ placed subtable read }

@@ -23,7 +23,7 @@ fn table_at(graph: &Graph, vertex: u32) -> MarkBasePosFormat1
 }
 
 /// The parts of the subtable that the vertex `v` is or, in type 9, is the extension of.
-// Graph and number side by side, as in the graph's own calls: a vertex is named by its number.
+// Graph, type and number side by side, here and where subtables are read: a vertex is named by its number in the graph, and the type is its lookup's.
 fn known_table<'a>(graph: &'a Graph, kind: LookupType, v: u32) -> KnownTable<'a>
     requires { is_ok (subtable_of (view graph.now).nodes kind v) ≡ true }
     ensures { contents_at (view result.graph.now).nodes result.table ≡ contents_in (subtable_of (view graph.entry.now).nodes kind v) }

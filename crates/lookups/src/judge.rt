@@ -56,6 +56,7 @@ impl CountedGraph<'_> {
         ensures { Passes (wrong_with (view self.now.graph.now).nodes i (info_of (subtable_of (view self.now.graph.now).nodes kind v))) result }
     {
         let info = in_subtable(i, read_subtable(self.graph, kind, v))?;
+        // A match, since the part that is found is the error and none is the value.
         match self.shared_part(info) {
             Some(part) => Err(Refusal::SharedPart {
                 subtable: u32::from(i),

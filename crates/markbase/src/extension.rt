@@ -30,6 +30,7 @@ impl ExtensionSubtable {
         if kind.value != LookupType::MarkToBase as u16 {
             return Err(Fault { place: kind.place });
         }
+        // As in the subtable: an absent link gives the fault.
         let Some(subtable) = cursor.role(LinkWidth::Four) else {
             return Err(cursor.fault());
         };

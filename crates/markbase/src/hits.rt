@@ -64,6 +64,7 @@ impl KnownTable<'_> {
         Some(array.anchor(i, class))
     }
 
+    // A mark and a base are two parameters, here and in the calls above: a pair would be made for each call alone.
     /// The hit of a mark and a base.
     pub fn find_hit(&self, mark: u16, base: u16) -> Option<Hit>
         ensures { result ≡ hit_of (contents_at (view self.now.graph.now).nodes self.now.table) mark base }

@@ -22,6 +22,7 @@ impl MarkBasePosFormat1 {
     pub fn read(vertex: DataBytes) -> Result<MarkBasePosFormat1, Fault>
         ensures { Reads (read subtable (node_of vertex.entry)) result }
     {
+        // `let .. else` on each link of a part: the first that is absent gives the fault.
         let mut cursor = Cursor::new(vertex.bytes, vertex.links);
         let format = cursor.word()?;
         if format.value != 1 {

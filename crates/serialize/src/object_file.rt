@@ -87,6 +87,7 @@ impl LinkRecord {
     }
 
     // The link that the record stands for.
+    // No `From`, which would say that every record has one: where no field has the width, two is taken.
     pub fn link(self) -> Link
         ensures { result ≡ link_from self }
     {
@@ -126,6 +127,7 @@ impl Trailer {
             && self.records as usize + 16 * self.links as usize + TRAILER_LEN == len
     }
 
+    // These three take trailer and bytes apart: `ObjectFile::read` scans before there is an `ObjectFile`, and they ask less than its methods.
     // The length of a vertex.
     pub fn length(self, file: &[u8], v: u32) -> u32
         requires { self.lengths + 4 * v + 4 ≤ length file.now }
@@ -271,6 +273,7 @@ impl<'a> ObjectFile<'a> {
     pub fn check_links(self) -> Result<SoundFile<'a>, BrokenLink>
         ensures { MatchResult result (λ sound. sound.file ≡ self.entry) (λ broken. first_broken self.entry.bytes.now self.entry.trailer ≡ Some broken.record) }
     {
+        // A match, since the broken record is the error and none is the value.
         match self.first_broken() {
             Some(record) => Err(BrokenLink { record }),
             None => Ok(SoundFile { file: self }),

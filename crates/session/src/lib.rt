@@ -23,6 +23,7 @@ pub const BYTES: usize = 16_000;
 pub const LONGEST_FILE: usize = 50_020;
 
 // A new workspace with the program's tables.
+// Not one function with what the tests make: it is two calls, and each has sizes of its own.
 pub fn new_workspace(heap: Global) -> Result<Workspace, AllocError>
     ensures { IfOk result (λ w. view w ≡ program_model) }
 {

@@ -7,7 +7,7 @@ ghost use Rattle.walk.specs.Sizes.{Grows};
 
 use graph::tables::Graph;
 
-// Graph and marks are parameters and no struct: in place of the marks' length, each method of one would state that it keeps the graph and the loan of the marks.
+// Graph and marks are parameters and no struct: in place of the marks' length, each method of one would state that it keeps the graph and the loan of the marks; and a vertex is named by its number.
 // Marks what is reached from `v` over vertices that are not marked, and answers how long it is together.
 pub fn find_subgraph_size(graph: &Graph, visited: &mut [bool], v: usize) -> usize
     requires vertex { v < length (view graph.now).nodes }

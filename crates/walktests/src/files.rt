@@ -128,6 +128,7 @@ pub fn graph_of(
 ) -> Result<Option<Graph>, AllocError> {
     let mut area = Vec::new(heap);
     let mut lengths = Vec::new(heap);
+    // A loop that pushes, since each step makes both lists longer and may fail.
     for count in words {
         area.resize(area.len() + 4 * *count as usize, 0)?;
         lengths.push(count.wrapping_mul(4))?;

@@ -9,10 +9,7 @@ use walk::all::{NoVertex, size_of_all};
 use walk::marks::clear;
 
 fn graph(heap: Global, words: &[u32], records: &[LinkRecord]) -> Result<Graph, Fail> {
-    match graph_of(heap, words, records)? {
-        Some(graph) => Ok(graph),
-        None => Err(Fail::new("no object file")),
-    }
+    graph_of(heap, words, records)?.ok_or_else(|| Fail::new("no object file"))
 }
 
 // Checks what a walk from the roots answers, and that it leaves no mark.

@@ -7,6 +7,7 @@ ghost use Rattle.graph.specs.Model.{view};
 use super::Graph;
 use serialize::link::Link;
 
+// The list of zeros is working memory of the caller, which asks it of itself between calls; no type of its own holds it.
 // Counts, in a list of zeros, how many of the links lead to each vertex.
 fn count_children(links: &[Link], counts: &mut [u32])
     requires zero { counts.old ≡ replicate (length counts.old) 0 }

@@ -53,9 +53,7 @@ impl Workspace {
     pub fn attach(&self, mark: u16, base: u16) -> Result<Option<Hit>, Refusal>
         ensures { result ≡ attach_of (view self.now) mark base }
     {
-        let Some(lookup) = self.lookup else {
-            return Err(Refusal::NothingOpen);
-        };
+        let lookup = self.lookup.ok_or(Refusal::NothingOpen)?;
         Ok(attach(&self.graph, lookup, mark, base))
     }
 
