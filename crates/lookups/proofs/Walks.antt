@@ -43,8 +43,5 @@ module _ (nodes : List Node) (kind : LookupType) (vs : List ℕ) (i : ℕ) (lt :
   from_next = ap (subtables_from nodes kind i) (drop-cons vs i 0 lt) ∙ ap (λ n. also (placed i (subtable_of nodes kind (get_or vs i 0))) (subtables_from nodes kind (i + 1) (drop n vs))) (sym (add-one i))
 
   module _ (r : Result TableInfo PartFault) (e : r ≡ info_of (subtable_of nodes kind (get_or vs i 0))) where
-    pub goes_on : (a : TableInfo) → Ok a ≡ placed i r → fault_of (subtables_from nodes kind i (drop i vs)) ≡ fault_of (subtables_from nodes kind (i + 1) (drop (i + 1) vs))
-    goes_on a h = ap fault_of from_next ∙ (fault_placed i (subtable_of nodes kind (get_or vs i 0)) (subtables_from nodes kind (i + 1) (drop (i + 1) vs)) r e).0 a h
-
     pub stops : (f : LookupFault) → Err f ≡ placed i r → fault_of (subtables_from nodes kind i (drop i vs)) ≡ Some f
     stops f h = ap fault_of from_next ∙ (fault_placed i (subtable_of nodes kind (get_or vs i 0)) (subtables_from nodes kind (i + 1) (drop (i + 1) vs)) r e).1 f h

@@ -101,10 +101,7 @@ module _ (nodes : List Node) (t : MarkBasePosFormat1) (p : Parts nodes t) where
   pub base_missed : (g class : ℕ) → index_in g 0 p.base_glyphs ≡ None → anchor_of class (base_in (contents_at nodes t) g) ≡ None
   base_missed g class e = ap (λ (c : Contents). anchor_of class (base_in c g)) contents_at_lem ∙ ap (anchor_of class) (missed base_of (λ (b : Base). b.glyph) (λ g a. refl) p.base_glyphs p.rows g 0 e)
 
-  -- the arrays are read where a view of them is made
-  pub marks_stand : (v : DataBytes) (n : ℕ) → node_of v ≡ node_at nodes t.mark_array → n ≡ length p.mark_glyphs → is_ok (read (mark_array_reader n t.class_count) (node_of v)) ≡ true
-  marks_stand v n here' many = ap is_ok ((λ i. read (mark_array_reader (many i) t.class_count) (here' i)) ∙ p.whole.mark_records)
-
+  -- the base array is read where a view of it is made
   pub bases_stand : (v : DataBytes) (n : ℕ) → node_of v ≡ node_at nodes t.base_array → n ≡ length p.base_glyphs → is_ok (read (base_array_reader n t.class_count) (node_of v)) ≡ true
   bases_stand v n here' many = ap is_ok ((λ i. read (base_array_reader (many i) t.class_count) (here' i)) ∙ p.whole.base_rows)
 

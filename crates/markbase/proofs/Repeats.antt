@@ -31,6 +31,3 @@ module _ {A C : Type 0} (E : ℕ → C) (V : Rest → C) where
 
     pub times_step : (a : A) (t : Rest) → r s ≡ Ok (a, t) → onward E V (times m r s) ≡ onward E V (times n r t)
     times_step a t e = times_open ∙ ap (onward E (λ t. onward E V (times n r t))) e
-
-    pub times_stop : (p : ℕ) → r s ≡ Err p → onward E V (times m r s) ≡ E p
-    times_stop p e = times_open ∙ ap (onward E (λ t. onward E V (times n r t))) e

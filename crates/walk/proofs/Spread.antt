@@ -66,9 +66,6 @@ join split left right a b =
 abbrev pub Sent : List Link → ℕ → ℕ → Type 0
 Sent links n r = (i : ℕ) × (i < n) × ((link_at links i).child ≡ r)
 
-pub sent_none : (links : List Link) (r : ℕ) → Sent links 0 r → ⊥
-sent_none links r s = omega (arith, s.1)
-
 -- one more link
 pub sent_more : {nodes : List Node} {ms ns ks : List Bool} (links : List Link) (n : ℕ)
     → Swept nodes ms (Sent links n) ns → Swept nodes ns (Only (link_at links n).child) ks → Swept nodes ms (Sent links (n + 1)) ks
