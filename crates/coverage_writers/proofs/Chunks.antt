@@ -5,7 +5,6 @@ use Rattle.std.proofs.lemmas.Bool.{eqb-false}
 use Rattle.std.proofs.lemmas.List.{get_or_append_left, drop_at, nil_from_length}
 use Rattle.std.specs.List.{IsChunkByPrefix}
 use Rattle.std.specs.Fn.{ComputesOnPairs}
-use Rattle.std.specs.Iterator.{Drains}
 use Rattle.std.specs.Slice.Iter.{chunk_by_rest, chunk_by_callee, chunk_by_steps}
 use Rattle.std.specs.declared.slice.ChunkBy.{ChunkBy}
 use denote.Ref.{Bor}
@@ -88,14 +87,12 @@ module _ (plan old cur xs : List ℕ) (i from : ℕ) (a : Along plan old cur (by
     pub part_room : from + 6 ≤ length plan
     part_room = omega (arith, ap length here.rest, length-drop from plan)
 
-    pub part_written : (next : List ℕ) (at to j : ℕ) → at ≡ from → to ≡ at + 6 → j ≡ i + (slice_index part (length part - 1) - slice_index part 0 + 1) → next ≡ take at cur ++ (bytes_of (slice_index part 0 ∷ slice_index part (length part - 1) ∷ i ∷ []) ++ drop (at + 6) cur) → Along plan old next (bytes_of (range_words j (runs left))) to
-    part_written next at to j e f count is =
-        let first = slice_index part 0 in
-        let last = slice_index part (length part - 1) in
-        let b = subst (λ n. Along plan old cur (bytes_of (range_words i ((first, last) ∷ runs left))) n) (sym e) here in
-        let more = along_more plan old cur at (bytes_of (first ∷ last ∷ i ∷ [])) (bytes_of (range_words (i + (last + 1 - first)) (runs left))) next 6 refl b is in
-        let k : i + (last + 1 - first) ≡ j = omega (arith, p.last, p.some) in
-        subst (λ (n : ℕ × ℕ). Along plan old next (bytes_of (range_words n.0 (runs left))) n.1) (λ m. (k m, sym f m)) more
+    pub part_written : (next : List ℕ) (at to j s e : ℕ) → at ≡ from → to ≡ at + 6 → s ≡ slice_index part 0 → e ≡ slice_index part (length part - 1) → j ≡ i + (slice_index part (length part - 1) - slice_index part 0 + 1) → next ≡ take at cur ++ (bytes_of (s ∷ e ∷ i ∷ []) ++ drop (at + 6) cur) → Along plan old next (bytes_of (range_words j (runs left))) to
+    part_written next at to j s e begins six starts ends count is =
+        let b = subst (λ (m : ℕ × (ℕ × ℕ)). Along plan old cur (bytes_of (range_words i ((m.0, m.1.0) ∷ runs left))) m.1.1) (λ x. (sym starts x, (sym ends x, sym begins x))) here in
+        let more = along_more plan old cur at (bytes_of (s ∷ e ∷ i ∷ [])) (bytes_of (range_words (i + (e + 1 - s)) (runs left))) next 6 refl b is in
+        let k : i + (e + 1 - s) ≡ j = omega (arith, p.last, p.some, starts, ends) in
+        subst (λ (n : ℕ × ℕ). Along plan old next (bytes_of (range_words n.0 (runs left))) n.1) (λ m. (k m, sym six m)) more
 
   pub parts_done : (n : ℕ) → length xs ≡ 0 → length plan ≡ n → cur ≡ plan ++ drop n old
   parts_done n none size = along_end plan old cur from n size (subst (λ l. Along plan old cur (bytes_of (range_words i (runs l))) from) (nil_from_length xs none) a)
@@ -104,13 +101,3 @@ module _ {F : Type 0} (f : Mut F (Bor ℕ × (Bor ℕ × Unit {0})) Bool) where
   -- one call of `next`
   pub part_cut : (s t : ChunkBy ℕ F) (x : Bor (List ℕ)) → chunk_by_steps f s (Some x) t → ComputesOnPairs f follow (chunk_by_callee s) → Part (chunk_by_rest s) x.now (chunk_by_rest t)
   part_cut s t x step by = part_is (chunk_by_rest s) x.now (chunk_by_rest t) step.0 step.1 (step.2 follow by).1
-
-  -- how many parts come
-  pub count_chunks : (xs : List (Bor (List ℕ))) (s : ChunkBy ℕ F) → ComputesOnPairs f follow (chunk_by_callee s) → Drains (chunk_by_steps f) s xs → length xs ≡ length (runs (chunk_by_rest s))
-  count_chunks [] s by d =
-      let none = ap (λ (t : ChunkBy ℕ F). length (chunk_by_rest t)) d.1.1 ∙ d.1.2.0 in
-      sym (ap (λ l. length (runs l)) (nil_from_length (chunk_by_rest s) none))
-  count_chunks (x ∷ xs) s by d =
-      let step = d.1.1.1 in
-      let part = part_cut s d.1.1.0 x step by in
-      ap suc (count_chunks xs d.1.1.0 (step.2 follow by).0 (d.0, (d.1.0, d.1.1.2, d.1.2))) ∙ sym (ap length part.run)

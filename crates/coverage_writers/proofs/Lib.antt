@@ -1,4 +1,5 @@
 pub mod Ascends
 pub mod Chunks
+pub mod Counts
 pub mod Runs
 pub mod Writes

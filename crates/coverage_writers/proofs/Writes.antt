@@ -53,7 +53,7 @@ pub sorted_ascends : (gs : List ℕ) (r : Bool) → ((k : ℕ) → slice_index g
 sorted_ascends gs true small h = rises gs 0 small (λ _. omega arith) (λ k l. ltb-true (slice_index gs k) (slice_index gs (k + 1)) (sym (h k 0 l)))
 sorted_ascends gs false small h = falls gs 0 h.0 h.1 (ltb-false (slice_index gs h.0) (slice_index gs (h.0 + 1)) (sym (h.2 0)))
 
-written_so : (bs old : List ℕ) → length bs ≤ length old → written (Some bs) old ≡ bs ++ drop (length bs) old
+pub written_so : (bs old : List ℕ) → length bs ≤ length old → written (Some bs) old ≡ bs ++ drop (length bs) old
 written_so bs old h = cond-true (nat_le (length bs) (length old)) (bs ++ drop (length bs) old) old (le-leb (length bs) (length old) h)
 
 -- what a lawful writer writes of a list

@@ -4,7 +4,7 @@ use Rattle.std.proofs.Common.{sym, ap, subst, ◌∙◌, append_assoc, arith, �
 use Rattle.std.proofs.lemmas.Bool.{le-leb, lt-leb, ltb-true, leb-true, and_parts, cond-true, cond-false, cases_eq, cases_lt, eq-eqb, ne_eqb}
 use Rattle.layout.specs.Format.{Read, word, field, allowed, also, glyphs, read_coverage, run, ranges}
 use Rattle.coverage_writers.specs.Writing.{ascends, listed, Means, Lawful}
-use Rattle.coverage_writers.specs.Formats.{word_bytes, bytes_of, format1, meaning_by, runs_from, runs, range_words, format2, table_of}
+use Rattle.coverage_writers.specs.Formats.{word_bytes, bytes_of, format1, meaning_by, meaning1, runs_from, runs, range_words, format2, table_of, table_meaning}
 use Rattle.layout.proofs.Steps.{glyph_then, start_then, end_then, index_then, allowed_so}
 
 pub length-bytes_of : (ws : List ℕ) → length (bytes_of ws) ≡ 2 * length ws
@@ -132,3 +132,22 @@ lawful_by bytes means =
       taken = λ gs h. subst (Means gs) (sym (meaning_by-some bytes gs h)) (means gs h);
       declined = meaning_by-none bytes;
     }
+
+-- what the two laws say of each writer's meaning
+pub meaning1-some : (gs : List ℕ) → listed gs ≡ true → meaning1 gs ≡ Some (format1 gs)
+meaning1-some = meaning_by-some format1
+
+pub meaning1-none : (gs : List ℕ) → listed gs ≡ false → meaning1 gs ≡ None
+meaning1-none = meaning_by-none format1
+
+pub meaning1-means : (gs : List ℕ) → listed gs ≡ true → Means gs (meaning1 gs)
+meaning1-means = (lawful_by format1 format1_means).taken
+
+pub table_meaning-some : (gs : List ℕ) → listed gs ≡ true → table_meaning gs ≡ Some (table_of gs)
+table_meaning-some = meaning_by-some table_of
+
+pub table_meaning-none : (gs : List ℕ) → listed gs ≡ false → table_meaning gs ≡ None
+table_meaning-none = meaning_by-none table_of
+
+pub table_meaning-means : (gs : List ℕ) → listed gs ≡ true → Means gs (table_meaning gs)
+table_meaning-means = (lawful_by table_of table_means).taken

@@ -33,7 +33,17 @@ impl CoverageFormat2 {
         ensures value { result ≡ length (runs glyphs.now) }
         ensures bound { result ≤ length glyphs.now }
     {
-        glyphs.chunk_by(follows).count()
+        let [first, rest @ ..] = glyphs else {
+            return 0;
+        };
+        let mut end = first;
+        let mut count = 1;
+        // Added without a branch: runs end irregularly, and `chunk_by` or a filter would branch at each end.
+        for glyph in rest {
+            count += usize::from(!follows(end, glyph));
+            end = glyph;
+        }
+        count
     }
 
     /// Writes format 2, of which `count` is the number of ranges.

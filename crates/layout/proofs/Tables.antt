@@ -1,20 +1,17 @@
 -- A table without a fault has rows, and they cover its glyphs.
-use Rattle.std.proofs.Common.{◌≡◌, ℕ, zero, suc, ◌+◌, ◌-◌, ◌*◌, ◌/◌, ◌<◌, ◌≤◌, true, false, cond, eqb, ltb, ◌⊎◌, List, [], ◌∷◌, ◌++◌, length, get_or, drop, Some, None, Ok, Err, Option, sym, refl, ap, ◌∙◌, subst, inl, inr, ⊎_elim, arith, length-drop}
+use Rattle.std.proofs.Common.{◌≡◌, ℕ, zero, suc, ◌+◌, ◌-◌, ◌*◌, ◌/◌, ◌<◌, ◌≤◌, true, false, cond, eqb, ◌⊎◌, List, [], ◌∷◌, ◌++◌, length, get_or, drop, Some, None, Ok, Err, Option, sym, refl, ap, ◌∙◌, subst, inl, inr, ⊎_elim, arith, length-drop}
 use Rattle.std.proofs.lemmas.List.{drop-drop}
 use Rattle.std.specs.Simd.{first_chunks}
-use Rattle.std.proofs.lemmas.Bool.{cases_lt, cases_eq, eq-eqb, ne_eqb, ltb-true, ltb-false}
+use Rattle.std.proofs.lemmas.Bool.{cases_lt, cases_eq, eq-eqb, ne_eqb}
 use Rattle.layout.specs.Format.{Read, also, run, glyphs, ranges}
 use Rattle.layout.specs.Lookup.{given, covered, Sound, index_in, glyph_at}
 use Rattle.layout.specs.Records.{fault_of, word_at, front, RangeAt, range_count, start_of, end_of, index_of, last_index}
 use Rattle.layout.proofs.Steps.{glyph_short, glyph_low, glyph_next, glyph_after, reads_glyphs, reads_ranges, reads_none, reads_empty, reads_short, start_short, start_low, end_short, end_low, index_short, index_other, range_after, range_next}
-use Rattle.layout.specs.Searches.{RangeIs, HoldsIndex, Tabled, CutAt}
+use Rattle.layout.specs.Searches.{RangeIs, HoldsGlyph, HoldsIndex, Tabled}
 use Rattle.layout.specs.declared.coverage.Records.TheVariants.{Glyphs, Ranges}
 use denote.Ref.{Bor}
-use denote.Param.Members.{Mut}
-use Rattle.std.specs.Prelude.{Bool, slice_index_or}
-use Rattle.std.specs.Fn.{Called, ComputesKey}
-use Rattle.std.specs.List.Sorted.{IsNonDecreasingBy, IsPartitionedBy, IsPartitionPoint}
-use Rattle.std.proofs.lemmas.List.Sorted.{IsPartitionedBy-ltb, IsPartitionPoint-from_clause}
+use Rattle.std.specs.Prelude.{slice_index_or, MatchOption}
+use Rattle.layout.specs.declared.reader.RangeRecord.{RangeRecord}
 use Rattle.layout.specs.Walks.{Stands}
 use Rattle.layout.proofs.Chunks.{word_drop, word_chunk}
 use Rattle.layout.proofs.Rows.{Rows, rows_as, rows_at, rows_apart, rows_first, rows_next, rows_small, rows_many, rows_found, rows_absent, rows_glyph, rows_beyond, rows_count}
@@ -206,11 +203,8 @@ module _ (bs : List ℕ) (sound : Sound bs) where
   ends_rise : (j k : ℕ) → j < k → k < range_count bs → end_of bs j < start_of bs k
   ends_rise j k l h = (rows_apart (range_count bs) _ _ _ _ _ _ (table bs sound).rows j k l h).0
 
-  pub ends_sorted : (j k : ℕ) → j < k → k < range_count bs → end_of bs j ≤ end_of bs k
-  ends_sorted j k l h = omega (arith, ends_rise j k l h, ordered bs sound k h)
-
-  pub indices_sorted : (j k : ℕ) → j < k → k < range_count bs → last_index bs j ≤ last_index bs k
-  indices_sorted j k l h = omega (arith, (rows_apart (range_count bs) _ _ _ _ _ _ (table bs sound).rows j k l h).1)
+  indices_rise : (j k : ℕ) → j < k → k < range_count bs → last_index bs j < index_of bs k
+  indices_rise j k l h = (rows_apart (range_count bs) _ _ _ _ _ _ (table bs sound).rows j k l h).1
 
   pub index_small : (k : ℕ) → k < range_count bs → index_of bs k ≤ start_of bs k
   index_small k within = rows_small (range_count bs) _ _ _ _ _ _ (table bs sound).rows (omega arith) k within
@@ -223,35 +217,19 @@ module _ (bs : List ℕ) (sound : Sound bs) where
       let z : start_of bs k + (0 + x - index_of bs k) ≡ start_of bs k + (x - index_of bs k) = omega arith in
       rows_glyph (range_count bs) _ _ _ _ _ _ (table bs sound).rows k x within (omega arith) (omega arith) ∙ ap Some z
 
-  -- where k ranges end before the glyph x
-  module _ (x k : ℕ) (cut : CutAt x (end_of bs) (range_count bs) k) where
-    pub glyph_found : k < range_count bs → start_of bs k ≤ x → index_in x 0 (covered bs) ≡ Some (index_of bs k + (x - start_of bs k))
-    glyph_found within a = rows_found (range_count bs) _ _ _ _ _ _ (table bs sound).rows k x within a (cut.above k (omega arith) within)
+  -- what is found by a glyph, and by an index
+  module _ (x : ℕ) where
+    pub glyph_found : (k : ℕ) → k < range_count bs → HoldsGlyph bs k x → index_in x 0 (covered bs) ≡ Some (index_of bs k + (x - start_of bs k))
+    glyph_found k within h = rows_found (range_count bs) _ _ _ _ _ _ (table bs sound).rows k x within h.0 h.1
 
-    pub glyph_absent : (k < range_count bs → x < start_of bs k) → index_in x 0 (covered bs) ≡ None
-    glyph_absent h =
-        rows_absent (range_count bs) _ _ _ _ _ _ (table bs sound).rows x (λ j within a b.
-        ⊎_elim (λ l. omega (arith, cut.below j l within)) (λ l.
-        ⊎_elim (λ e. omega (arith, h (omega arith), ap (start_of bs) e)) (λ e. omega (arith, h (omega arith), ordered bs sound k (omega arith), ends_rise k j (omega arith) within))
-        (cases_eq j k)) (cases_lt j k))
+    pub glyph_absent : ((k : ℕ) → k < range_count bs → HoldsGlyph bs k x → ⊥) → index_in x 0 (covered bs) ≡ None
+    glyph_absent h = rows_absent (range_count bs) _ _ _ _ _ _ (table bs sound).rows x (λ k within a b. h k within (a, b))
 
-  -- where k ranges end before the index x
-  module _ (x k : ℕ) (cut : CutAt x (last_index bs) (range_count bs) k) where
-    pub index_absent : range_count bs ≤ k → glyph_at (covered bs) x ≡ None
-    index_absent h = rows_beyond (range_count bs) _ _ _ _ _ _ (table bs sound).rows x (λ j within a b. omega (arith, cut.below j (omega arith) within))
+    pub index_found : (k : ℕ) → k < range_count bs → HoldsIndex bs k x → glyph_at (covered bs) x ≡ Some (start_of bs k + (x - index_of bs k))
+    index_found = index_held x
 
-    begun : (m : ℕ) → m ≡ k → m < range_count bs → index_of bs m ≤ x
-    begun zero e h = omega (arith, rows_first (range_count bs) _ _ _ _ _ _ (table bs sound).rows h)
-    begun (suc m) e h = omega (arith, ordered bs sound m (omega arith), cut.below m (omega arith) (omega arith), rows_next (range_count bs) _ _ _ _ _ _ (table bs sound).rows m h)
-
-    pub index_begun : k < range_count bs → index_of bs k ≤ x
-    index_begun = begun k refl
-
-    pub index_found : k < range_count bs → glyph_at (covered bs) x ≡ Some (start_of bs k + (x - index_of bs k))
-    index_found h = index_held x k h (index_begun h, cut.above k (omega arith) h)
-
-    pub index_within : k < range_count bs → x - index_of bs k ≤ end_of bs k - start_of bs k
-    index_within h = omega (arith, cut.above k (omega arith) h)
+    pub index_absent : ((k : ℕ) → k < range_count bs → HoldsIndex bs k x → ⊥) → glyph_at (covered bs) x ≡ None
+    index_absent h = rows_beyond (range_count bs) _ _ _ _ _ _ (table bs sound).rows x (λ k within a b. h k within (omega arith, omega arith))
 
 -- how many glyphs there are, by the last range, or with none
 module _ (bs : List ℕ) (sound : Sound bs) where
@@ -311,16 +289,23 @@ stands_glyph bs k x s e i at within r =
     let found = index_held bs at.sound x k within (at.here within) ∙ ap Some z in
     (found, glyph_within (covered bs) x _ found)
 
--- what `partition_point` finds among arrays whose k-th has the number f k, where each call asks whether that is below x
-pub cut_at : {F : Type 0} {g : Mut F (Bor (List ℕ) × Unit {0}) Bool} {h : F} (key : List ℕ → ℕ) (x : ℕ) (f : ℕ → ℕ) (n : ℕ) (xs : List (List ℕ)) (i : ℕ)
-    → length xs ≡ n → ((k : ℕ) (d : List ℕ) → k < n → key (slice_index_or xs k d) ≡ f k) → ((j k : ℕ) → j < k → k < n → f j ≤ f k)
-    → ((q : List ℕ → Bool) → ComputesKey g q h → IsPartitionedBy q xs → IsPartitionPoint (λ y. q y ≡ true) (λ y. q y ≡ false) xs i)
-    → ((a : Bor (List ℕ) × Unit {0}) (r : Bool) (h' : F) → Called g h a r h' → (r ≡ ltb (key a.0.now) x) × (h' ≡ h)) → CutAt x f n i
-cut_at key x f n xs i long same rise clause calls =
-    let up : IsNonDecreasingBy key xs =
-    λ j k d le h. ⊎_elim (λ e. omega (arith, ap (λ m. key (slice_index_or xs m d)) e)) (λ e. omega (arith, same j d (omega arith), same k d (omega arith), rise j k (omega arith) (omega arith))) (cases_eq j k) in
-    let at = IsPartitionPoint-from_clause (λ y. ltb (key y) x) xs i clause (IsPartitionedBy-ltb key xs x up) calls in
-    record {
-      below = λ j h l. omega (arith, same j [] l, ltb-true _ _ (at.0 j [] (omega arith) h));
-      above = λ j h l. omega (arith, same j [] l, ltb-false _ _ (at.1 j [] h (omega arith)));
-    }
+-- halving: what the m-th range tells of those before it, and of those after
+module _ (bs : List ℕ) (sound : Sound bs) (x m : ℕ) (within : m < range_count bs) where
+  pub glyphs_before : end_of bs m < x → (k : ℕ) → k < m + 1 → end_of bs k < x
+  glyphs_before e k h = ⊎_elim (λ same. omega (arith, ap (end_of bs) same)) (λ other. omega (arith, ends_rise bs sound k m (omega arith) within, ordered bs sound m within)) (cases_eq k m)
+
+  pub glyphs_after : x < start_of bs m → (k : ℕ) → m ≤ k → k < range_count bs → x < start_of bs k
+  glyphs_after e k h on = ⊎_elim (λ same. omega (arith, ap (start_of bs) same)) (λ other. omega (arith, ends_rise bs sound m k (omega arith) on, ordered bs sound m within)) (cases_eq k m)
+
+  pub indices_before : last_index bs m < x → (k : ℕ) → k < m + 1 → last_index bs k < x
+  indices_before e k h = ⊎_elim (λ same. omega (arith, ap (last_index bs) same)) (λ other. omega (arith, indices_rise bs sound k m (omega arith) within)) (cases_eq k m)
+
+  pub indices_after : x < index_of bs m → (k : ℕ) → m ≤ k → k < range_count bs → x < index_of bs k
+  indices_after e k h on = ⊎_elim (λ same. omega (arith, ap (index_of bs) same)) (λ other. omega (arith, indices_rise bs sound m k (omega arith) on)) (cases_eq k m)
+
+-- where each range has one index, its number, the range with that number is the one that holds it
+pub held_at : (bs : List ℕ) (x : ℕ) → ((k : ℕ) → k < range_count bs → (index_of bs k ≡ k) × (last_index bs k ≡ k)) → (o : Option RangeRecord)
+    → MatchOption o (range_count bs ≤ x) (λ r. (x < range_count bs) × RangeIs bs x r.start r.end r.index)
+    → MatchOption o ((k : ℕ) → k < range_count bs → HoldsIndex bs k x → ⊥) (λ r. (k : ℕ) × (k < range_count bs) × RangeIs bs k r.start r.end r.index × HoldsIndex bs k x)
+held_at bs x own None h = λ k within m. omega (arith, own k within)
+held_at bs x own (Some r) h = (x, h.0, h.1, (omega (arith, own x h.0), omega (arith, own x h.0)))

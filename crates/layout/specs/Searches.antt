@@ -11,6 +11,10 @@ pub record RangeIs (bs : List ℕ) (k s e i : ℕ) : Type 0 where
   pub index : i ≡ index_of bs k
   pub ordered : s ≤ e
 
+-- the k-th range holds the glyph x
+abbrev pub HoldsGlyph : List ℕ → ℕ → ℕ → Type 0
+HoldsGlyph bs k x = (start_of bs k ≤ x) × (x ≤ end_of bs k)
+
 -- the k-th range holds the index x
 abbrev pub HoldsIndex : List ℕ → ℕ → ℕ → Type 0
 HoldsIndex bs k x = (index_of bs k ≤ x) × (x ≤ last_index bs k)
@@ -21,8 +25,3 @@ Tabled bs (Glyphs gs) =
     (length gs.now ≡ range_count bs) × ((k : ℕ) (d : List ℕ) → k < range_count bs → RangeIs bs k (word_at (slice_index_or gs.now k d) 0) (word_at (slice_index_or gs.now k d) 0) k)
 Tabled bs (Ranges rs) =
     (length rs.now ≡ range_count bs) × ((k : ℕ) (d : List ℕ) → k < range_count bs → RangeIs bs k (word_at (slice_index_or rs.now k d) 0) (word_at (slice_index_or rs.now k d) 2) (word_at (slice_index_or rs.now k d) 4))
-
--- of the numbers from f 0 to f (n - 1), the first k and no others are below x
-pub record CutAt (x : ℕ) (f : ℕ → ℕ) (n k : ℕ) : Type 0 where
-  pub below : (j : ℕ) → j < k → j < n → f j < x
-  pub above : (j : ℕ) → k ≤ j → j < n → x ≤ f j

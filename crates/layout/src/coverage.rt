@@ -1,9 +1,9 @@
 // A Coverage table that was read, borrowed: its glyphs by index, and the index of a glyph.
-ghost use Rattle.std.specs.Prelude.{◌≡◌, ℕ, ◌+◌, ◌-◌, ◌*◌, ◌<◌, ◌≤◌, length, Ok, Err, MatchOption, MatchResult};
+ghost use Rattle.std.specs.Prelude.{◌≡◌, ℕ, ◌+◌, ◌-◌, ◌*◌, ◌<◌, ◌≤◌, List, length, Ok, Err, MatchOption, MatchResult};
 ghost use Rattle.layout.specs.Format.{read_coverage};
 ghost use Rattle.layout.specs.Lookup.{covered, Sound, index_in, glyph_at};
-ghost use Rattle.layout.specs.Records.{range_count, end_of, last_index};
-ghost use Rattle.layout.specs.Searches.{RangeIs, Tabled, CutAt};
+ghost use Rattle.layout.specs.Records.{range_count, last_index};
+ghost use Rattle.layout.specs.Searches.{RangeIs, HoldsGlyph, HoldsIndex, Tabled};
 
 use crate::coverage::glyphs::Glyphs;
 use crate::located::CoverageFault;
@@ -12,6 +12,7 @@ use crate::reader::{RangeRecord, check};
 pub mod glyphs;
 
 /// The records of a table by its format, each as its bytes.
+#[derive(Clone, Copy)]
 enum Records<'a> {
     Glyphs(&'a [[u8; 2]]),
     Ranges(&'a [[u8; 6]]),
@@ -22,6 +23,18 @@ enum Records<'a> {
 pub struct Coverage<'a> {
     bytes: &'a [u8],
     pub ghost sound: { Sound bytes.now },
+}
+
+impl Records<'_> {
+    /// How many there are.
+    fn len(&self) -> usize
+        ensures { (bs : List ℕ) → Tabled bs self.now → result ≡ range_count bs }
+    {
+        match self {
+            Records::Glyphs(all) => all.len(),
+            Records::Ranges(all) => all.len(),
+        }
+    }
 }
 
 impl<'a> Coverage<'a> {
@@ -56,13 +69,14 @@ impl<'a> Coverage<'a> {
         }
     }
 
-    /// The range number `k`; in format 1 each glyph is a range of its own.
-    fn range(&self, k: usize) -> Option<RangeRecord>
+    /// The range number `k` of the records; in format 1 each glyph is a range of its own.
+    fn range_of(&self, records: Records<'a>, k: usize) -> Option<RangeRecord>
+        requires { Tabled self.now.bytes.now records }
         ensures { MatchOption result
             (range_count self.now.bytes.now ≤ k)
             (λ r. (k < range_count self.now.bytes.now) × RangeIs self.now.bytes.now k r.start r.end r.index) }
     {
-        match self.records() {
+        match records {
             Records::Glyphs(glyphs) => {
                 let start = u16::from_be_bytes(*glyphs.get(k)?);
                 let (end, index) = (start, k as u16);
@@ -72,30 +86,62 @@ impl<'a> Coverage<'a> {
         }
     }
 
-    /// How many ranges end before a glyph.
-    fn before_glyph(&self, glyph: u16) -> usize
-        ensures { CutAt glyph (end_of self.now.bytes.now) (range_count self.now.bytes.now) result }
+    /// The range number `k`.
+    fn range(&self, k: usize) -> Option<RangeRecord>
+        ensures { MatchOption result
+            (range_count self.now.bytes.now ≤ k)
+            (λ r. (k < range_count self.now.bytes.now) × RangeIs self.now.bytes.now k r.start r.end r.index) }
     {
-        match self.records() {
-            Records::Glyphs(glyphs) => {
-                glyphs.partition_point(|last| u16::from_be_bytes(*last) < glyph)
-            }
-            Records::Ranges(ranges) => {
-                ranges.partition_point(|last| RangeRecord::from(*last).end < glyph)
-            }
-        }
+        self.range_of(self.records(), k)
     }
 
-    /// How many ranges end before an index.
-    fn before_index(&self, index: usize) -> usize
-        ensures { CutAt index (last_index self.now.bytes.now) (range_count self.now.bytes.now) result }
+    /// The range that holds a glyph, by halving. The search ends where it comes upon it, which `partition_point` would not.
+    fn find_glyph(&self, glyph: u16) -> Option<RangeRecord>
+        ensures { MatchOption result
+            ((k : ℕ) → k < range_count self.now.bytes.now → HoldsGlyph self.now.bytes.now k glyph → ⊥)
+            (λ r. ((k : ℕ) × (k < range_count self.now.bytes.now) × RangeIs self.now.bytes.now k r.start r.end r.index × HoldsGlyph self.now.bytes.now k glyph)) }
     {
-        match self.records() {
-            Records::Glyphs(_) => index,
-            Records::Ranges(ranges) => {
-                ranges.partition_point(|last| RangeRecord::from(*last).last_index() < index)
+        let records = self.records();
+        let mut low = 0;
+        let mut high = records.len();
+        while low < high {
+            let middle = low + (high - low) / 2;
+            let range = self.range_of(records, middle)?;
+            if range.end < glyph {
+                low = middle + 1;
+            } else if glyph < range.start {
+                high = middle;
+            } else {
+                return Some(range);
             }
         }
+        None
+    }
+
+    /// The range that holds an index, in the same way; in format 1 the index is the range's number.
+    fn find_index(&self, index: usize) -> Option<RangeRecord>
+        ensures { MatchOption result
+            ((k : ℕ) → k < range_count self.now.bytes.now → HoldsIndex self.now.bytes.now k index → ⊥)
+            (λ r. ((k : ℕ) × (k < range_count self.now.bytes.now) × RangeIs self.now.bytes.now k r.start r.end r.index × HoldsIndex self.now.bytes.now k index)) }
+    {
+        let records = self.records();
+        if let Records::Glyphs(_) = records {
+            return self.range_of(records, index);
+        }
+        let mut low = 0;
+        let mut high = records.len();
+        while low < high {
+            let middle = low + (high - low) / 2;
+            let range = self.range_of(records, middle)?;
+            if range.last_index() < index {
+                low = middle + 1;
+            } else if index < usize::from(range.index) {
+                high = middle;
+            } else {
+                return Some(range);
+            }
+        }
+        None
     }
 
     /// How many glyphs the table covers: up to 65,536.
@@ -111,22 +157,19 @@ impl<'a> Coverage<'a> {
     }
 
     /// The glyph at an index.
-    #[tactic(auto, using(crate::proofs::Tables::index_found, crate::proofs::Tables::index_absent, crate::proofs::Tables::index_begun, crate::proofs::Tables::index_within))]
     pub fn glyph(&self, index: usize) -> Option<u16>
         ensures { result ≡ glyph_at (covered self.now.bytes.now) index }
     {
-        let range = self.range(self.before_index(index))?;
+        let range = self.find_index(index)?;
         Some(range.start + (index - usize::from(range.index)) as u16)
     }
 
     /// The index of a glyph.
-    #[tactic(auto, using(crate::proofs::Tables::glyph_found, crate::proofs::Tables::glyph_absent, crate::proofs::Tables::index_small))]
     pub fn index_of(&self, glyph: u16) -> Option<u16>
         ensures { result ≡ index_in glyph 0 (covered self.now.bytes.now) }
     {
-        let range = self.range(self.before_glyph(glyph))?;
-        let above = glyph.checked_sub(range.start)?;
-        Some(range.index + above)
+        let range = self.find_glyph(glyph)?;
+        Some(range.index + (glyph - range.start))
     }
 
     /// The glyphs in order, each with its index.

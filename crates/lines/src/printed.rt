@@ -18,14 +18,14 @@ pub fn refused_line(heap: Global, echo: &[u8], refusal: Refusal) -> Result<Vec<u
     ensures line { IfOk result (λ v. v.items ≡ refused_line echo.now refusal) }
     ensures digits { DigitsSpell }
 {
-    reply(heap, echo, format_args!(" refused {refusal}\n"))
+    reply_with(heap, echo, format_args!(" refused {refusal}\n"))
 }
 
 // The answer to a call that gave a number: its echo, and the number.
 pub fn done_line(heap: Global, echo: &[u8], answer: u32) -> Result<Vec<u8>, AllocError>
     ensures { IfOk result (λ v. v.items ≡ done_line echo.now answer) }
 {
-    reply(heap, echo, format_args!(" done {answer}\n"))
+    reply_with(heap, echo, format_args!(" done {answer}\n"))
 }
 
 // The answer to a call that found a hit: its echo, and both anchors.
@@ -38,7 +38,7 @@ pub fn hit_line(
     ensures { IfOk result (λ v. v.items ≡ hit_line echo.now mark base) }
 {
     let (mark, base) = (Anchor(mark), Anchor(base));
-    reply(heap, echo, format_args!(" done {mark} {base}\n"))
+    reply_with(heap, echo, format_args!(" done {mark} {base}\n"))
 }
 
 // The answer to a call that found no hit.
@@ -64,10 +64,21 @@ impl fmt::Display for Anchor {
 }
 
 // The echo of a call, and what is said of it.
-fn reply<D: fmt::Display + Drop>(heap: Global, echo: &[u8], said: D) -> Result<Vec<u8>, AllocError>
-    ensures { IfOk result (λ v. IfSome (D.output said) (λ text. v.items ≡ echo.now ++ text)) }
+fn reply(heap: Global, echo: &[u8], said: &str) -> Result<Vec<u8>, AllocError>
+    ensures { IfOk result (λ v. v.items ≡ echo.now ++ said.now) }
 {
     let mut line = Vec::from_slice(heap, echo)?;
-    line.extend_from_slice(format!(in heap; "{said}")?.as_bytes())?;
+    line.extend_from_slice(said.as_bytes())?;
     Ok(line)
+}
+
+// The same, where what is said has to be formatted first; a text that is there already needs no other.
+fn reply_with<D: fmt::Display + Drop>(
+    heap: Global,
+    echo: &[u8],
+    said: D,
+) -> Result<Vec<u8>, AllocError>
+    ensures { IfOk result (λ v. IfSome (D.output said) (λ text. v.items ≡ echo.now ++ text)) }
+{
+    reply(heap, echo, format!(in heap; "{said}")?.as_str())
 }

@@ -9,6 +9,7 @@ use walktests::files::{file, record, with_trailer};
 use workspace::state::Workspace;
 use workspace::supply::Supply;
 
+// Not one function with what `session` makes: it is two calls, and each has sizes of its own.
 fn workspace(heap: Global, vertices: usize, links: usize, bytes: usize) -> Result<Workspace, Fail> {
     let capacity = Capacity {
         vertices,

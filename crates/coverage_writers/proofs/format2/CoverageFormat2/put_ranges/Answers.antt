@@ -1,6 +1,7 @@
 use Rattle.std.proofs.Common.{◌≡◌, ◌+◌, ◌*◌, ◌++◌, length, refl, ap, ◌∙◌, arith, rules}
 use Rattle.std.proofs.lemmas.List.Sorted.{answers_always}
 use Rattle.coverage_writers.specs.Formats.{bytes_of, range_words, runs, format2}
+use Rattle.std.specs.Prelude.{slice_index}
 use Rattle.coverage_writers.specs.WriterLaws.{length-format2}
 use Rattle.coverage_writers.proofs.Chunks.{part_cut, part_room, part_written, parts_done}
 use Rattle.coverage_writers.proofs.Runs.{along_past, header, listed_few}
@@ -35,7 +36,7 @@ loop-k-preserved c =
     record {
       can = search rules;
       finite = search rules;
-      along = part_written _ _ _ _ _ _ c.loop-k.invariant.along _ _ part _ (4 + 6 * c.in-Some.k) _ _ (omega arith) (omega arith) refl c.put_range.ensures;
+      along = part_written _ _ _ _ _ _ c.loop-k.invariant.along _ _ part _ (4 + 6 * c.in-Some.k) _ _ _ _ (omega arith) (omega arith) refl (ap (slice_index c.in-Some.run'.now) (omega arith)) (omega arith) c.put_range.ensures;
       left = omega arith;
     }
 

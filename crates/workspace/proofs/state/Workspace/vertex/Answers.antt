@@ -5,4 +5,7 @@ use Rattle.workspace.proofs.state.Workspace.vertex.Goals as goal
 
 pub returns : goal.returns
 unfolding view
-returns c = (search rules, ap (λ (x : Node). x.bytes) c.from_graph.ensures.node, ap (λ (x : Node). x.links) c.from_graph.ensures.node)
+returns c =
+    let bytes = ap (λ (x : Node). x.bytes) c.from_graph.ensures.node in
+    let links = ap (λ (x : Node). x.links) c.from_graph.ensures.node in
+    search rules
