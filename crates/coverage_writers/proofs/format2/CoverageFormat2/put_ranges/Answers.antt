@@ -36,7 +36,7 @@ loop-k-preserved c =
     record {
       can = search rules;
       finite = search rules;
-      along = part_written _ _ _ _ _ _ c.loop-k.invariant.along _ _ part _ (4 + 6 * c.in-Some.k) _ _ _ _ (omega arith) (omega arith) refl (ap (slice_index c.in-Some.run'.now) (omega arith)) (omega arith) c.put_range.ensures;
+      along = part_written _ _ _ _ _ _ c.loop-k.invariant.along _ _ part _ (4 + 6 * c.in-Some.k) _ _ _ _ (omega arith) (omega arith) refl (ap (slice_index c.in-Some.run'.now) (omega (arith, part_room _ _ _ _ _ _ c.loop-k.invariant.along _ _ part, length-format2 c.args.glyphs.now, part.count, listed_few c.args.glyphs.now c.requires.listed))) (omega arith) c.put_range.ensures;
       left = omega arith;
     }
 
